@@ -1,0 +1,31 @@
+-- The table of numbered answers, read as rules in an order: the first that is broken gives its number.
+use mathlib.Core.Bool.{Bool, true, false}
+use mathlib.Core.List.{List, [], _∷_}
+use Prim.Native.Nat.{ℕ, _^_}
+use lib.Dec.{eqb, ltb}
+
+-- one of two, by a test
+abbrev pub pick : {A : Type 0} → Bool → A → A → A
+pick true a b = a
+pick false a b = b
+
+-- a rule: its number, and whether it is broken
+pub record Rule : Type 0 where
+  pub code : ℕ
+  pub broken : Bool
+
+abbrev pub rule : ℕ → Bool → Rule
+rule n b = record { code = n; broken = b }
+
+-- the number of the first broken rule, 0 where all hold
+abbrev pub firstBroken : List Rule → ℕ
+firstBroken [] = 0
+firstBroken (r ∷ rs) = pick (r .broken) (r .code) (firstBroken rs)
+
+-- 1: expected signature length not in 1..4096
+abbrev pub signatureRules : ℕ → List Rule
+signatureRules signature = rule 1 (eqb signature 0) ∷ rule 1 (ltb 4096 signature) ∷ []
+
+-- 1: image or command file over 2^30 bytes
+abbrev pub sizeRules : ℕ → List Rule
+sizeRules bytes = rule 1 (ltb (2 ^ 30) bytes) ∷ []
