@@ -9,11 +9,9 @@ pub fn copy(dst: &mut [u8], at: usize, src: &[u8])
     requires { ⌜ at + length (now src) ≤ length (now dst) ⌝ }
     ensures { λ r. ⌜ now (dst .exit) ≡ put (now (dst .entry)) at (now (src .entry)) ⌝ }
 {
-    let n = src.len();
-    let d = &mut dst[at..];
     let mut i = 0;
-    while i < n {
-        d[i] = src[i];
+    while i < src.len() {
+        dst[at + i] = src[i];
         i += 1;
     }
 }
