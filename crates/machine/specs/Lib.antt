@@ -1,0 +1,4 @@
+pub mod Bare
+pub mod Commands
+pub mod Machine
+pub mod Memory
