@@ -1,0 +1,33 @@
+//! Prints the digests of the published messages and of messages at each padding border,
+//! line for line what the Rattle program `vectors` prints.
+
+use second::sha2;
+
+const MESSAGE_448: &[u8] = b"abcdbcdecdefdefgefghfghighijhijkijkljklmklmnlmnomnopnopq";
+const MESSAGE_896: &[u8] = b"abcdefghbcdefghicdefghijdefghijkefghijklfghijklmghijklmn\
+    hijklmnoijklmnopjklmnopqklmnopqrlmnopqrsmnopqrstnopqrstu";
+const BORDERS: [usize; 14] = [
+    55, 56, 57, 63, 64, 65, 111, 112, 113, 119, 120, 127, 128, 129,
+];
+
+fn main() {
+    show("empty", b"");
+    show("abc", b"abc");
+    show("448-bit", MESSAGE_448);
+    show("896-bit", MESSAGE_896);
+    show("million-a", &[b'a'; 1_000_000]);
+    for length in BORDERS {
+        let message: Vec<u8> = (0..length).map(|i| (i % 251) as u8).collect();
+        show(&format!("border-{length}"), &message);
+    }
+}
+
+fn show(name: &str, message: &[u8]) {
+    for (id, hash) in [(2, "sha256"), (3, "sha384"), (4, "sha512")] {
+        print!("{hash} {name} ");
+        for byte in sha2::digest(id, message) {
+            print!("{byte:02x}");
+        }
+        println!();
+    }
+}

@@ -1,0 +1,5 @@
+//! The second program: what the proved library does, written once more in Rust
+//! from FIPS 180-4 and document 01 alone, to compare the two.
+
+pub mod random;
+pub mod sha2;
