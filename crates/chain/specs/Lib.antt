@@ -1,0 +1,5 @@
+pub mod Blocks
+pub mod Hashsum
+pub mod Header
+pub mod Open
+pub mod Pack

@@ -1,0 +1,85 @@
+-- Pack: the image of a file, with a zeroed signature field.
+use mathlib.Core.Bool.{not}
+use mathlib.Core.List.{List, [], _∷_, _++_}
+use Prim.Native.Nat.{ℕ, zero, suc, _+_, _-_, _*_, _/_}
+use lib.Dec.{eqb, leb, ltb}
+use lib.ListN.{length, replicate}
+use Rattle.octets.specs.Parts.{part}
+use Rattle.answers.specs.Rules.{pick, Rule, rule, firstBroken, signatureRules, sizeRules}
+use Rattle.chain.specs.Hashsum.{hashsum, sumLength, idRules}
+use Rattle.chain.specs.Header.{Header, headerBytes}
+
+-- what is packed, and how: the file, the four hash IDs, block size and signature length
+pub record Order : Type 0 where
+  pub file : List ℕ
+  pub ids : List ℕ
+  pub blockSize : ℕ
+  pub signature : ℕ
+
+-- block data length
+abbrev pub room : Order → ℕ
+room p = p .blockSize - sumLength (p .ids)
+
+-- as few blocks as hold the file
+abbrev pub blocks : Order → ℕ
+blocks p = (length (p .file) + room p - 1) / room p
+
+abbrev pub padding : Order → ℕ
+padding p = blocks p * room p - length (p .file)
+
+abbrev pub imageLength : Order → ℕ
+imageLength p = 36 + sumLength (p .ids) + p .signature + blocks p * p .blockSize
+
+-- pack checks 6, then block size (11), 28, then 1 (signature length, image over 2^30), then 29
+abbrev pub packRules : Order → ℕ → List Rule
+packRules p output =
+    idRules (p .ids)
+    ++ rule 11 (leb (p .blockSize) (sumLength (p .ids)))
+    ∷ rule 11 (ltb 1048576 (p .blockSize))
+    ∷ rule 28 (eqb (length (p .file)) 0)
+    ∷ signatureRules (p .signature)
+    ++ sizeRules (imageLength p)
+    ++ rule 29 (not (eqb output (imageLength p)))
+    ∷ []
+
+-- the data of block k, from 0: the padding's zeros, then the file, cut into parts
+abbrev pub chunk : Order → ℕ → List ℕ
+chunk p k = part (replicate (padding p) 0 ++ p .file) (k * room p) (room p)
+
+-- the hash field before block k, if j blocks begin there: the hashsum of block k; the last block's is zero
+unfoldable pub link : Order → ℕ → ℕ → List ℕ
+link p zero k = replicate (sumLength (p .ids)) 0
+link p (suc j) k = hashsum (p .ids) (link p j (suc k) ++ chunk p k)
+
+-- j blocks from number k on, one behind the other
+unfoldable pub blocksFrom : Order → ℕ → ℕ → List ℕ
+blocksFrom p zero k = []
+blocksFrom p (suc j) k = link p j (suc k) ++ chunk p k ++ blocksFrom p j (suc k)
+
+abbrev pub packedHeader : Order → Header
+packedHeader p =
+    record {
+      magic = 0xe6019598;
+      count = blocks p;
+      blockSize = p .blockSize;
+      signature = p .signature;
+      headerSize = 36 + sumLength (p .ids);
+      hashsumLength = sumLength (p .ids);
+      ids = p .ids;
+      scheme = 1;
+      padding = padding p;
+      root = link p (blocks p) 0;
+    }
+
+unfoldable pub image : Order → List ℕ
+image p = headerBytes (packedHeader p) ++ replicate (p .signature) 0 ++ blocksFrom p (blocks p) 0
+
+-- what pack returns, and leaves in its output
+pub record Packed : Type 0 where
+  pub code : ℕ
+  pub output : List ℕ
+
+unfoldable pub packed : Order → List ℕ → Packed
+packed p output =
+    let code = firstBroken (packRules p (length output)) in
+    record { code = code; output = pick (eqb code 0) (image p) output }
