@@ -1,1 +1,6 @@
+pub mod Compression
+pub mod Digests
+pub mod Padding
+pub mod Tables
+pub mod Widths
 pub mod Words
