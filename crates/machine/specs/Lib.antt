@@ -2,3 +2,4 @@ pub mod Bare
 pub mod Commands
 pub mod Machine
 pub mod Memory
+pub mod Reached

@@ -98,14 +98,14 @@ awaiting s = record { phase = Header; held = []; start = s .next; next = s .next
 
 -- Where a command would begin, judged from sizes alone: at the file's end 0, or 27 without an entry command;
 -- 17 with 1 to 15 bytes left; else a command begins.
-abbrev pub begins : Job → State → State
+unfoldable pub begins : Job → State → State
 begins job s =
     pick (eqb (s .next) (job .fileLength))
     (pick (s .tally .entered) (stopped 0 0 s) (stopped 27 (job .fileLength) s))
     (pick (ltb (job .fileLength - s .next) 16) (stopped 17 (s .next) s) (awaiting s))
 
 -- a command counts as done when its last byte has been used
-abbrev pub finished : Job → State → State
+unfoldable pub finished : Job → State → State
 finished job s = begins job (tallied (withCommand (s .tally)) s)
 
 -- a command that breaks a rule stops the run at its first byte; one that breaks none goes on
@@ -113,11 +113,11 @@ abbrev pub judged : ℕ → State → Turn → Turn
 judged code s t = pick (eqb code 0) t (still (stopped code (s .start) s))
 
 -- the magic is judged when its 8 bytes are proved
-abbrev pub magicRead : Job → State → State
+unfoldable pub magicRead : Job → State → State
 magicRead job s = pick (eqb (little (s .held)) 0x8adc5fa2448cb65e) (begins job s) (stopped 16 0 s)
 
 -- a header has passed: a skipped command has its data skipped, the others wait for what they are judged by
-abbrev pub passed : Job → Command → ℕ → State → State
+unfoldable pub passed : Job → Command → ℕ → State → State
 passed job Write n s = turnedTo Parameters s
 passed job Fill n s = turnedTo Parameters s
 passed job Entry n s = turnedTo Parameters s
@@ -125,20 +125,20 @@ passed job Check n s = turnedTo Parameters s
 passed job Skip n s = pick (eqb n 0) (finished job s) (turnedTo (Skipping n) s)
 passed job Unknown n s = s
 
-abbrev pub headerRead : Job → State → Turn
+unfoldable pub headerRead : Job → State → Turn
 headerRead job s =
     judged (firstBroken (headerRules (commandOf (s .held)) (dataLength (s .held)) (job .fileLength - s .next))) s
     (still (passed job (commandOf (s .held)) (dataLength (s .held)) s))
 
 -- a write's address is judged over its whole range; then each byte is stored as it comes
-abbrev pub writeRead : Job → State → Turn
+unfoldable pub writeRead : Job → State → Turn
 writeRead job s =
     let n = dataLength (s .held) - 8 in
     judged (firstBroken (rangeRules (job .unit) (address (s .held)) n)) s
     (still (pick (eqb n 0) (finished job s) (turnedTo (Storing (address (s .held)) n) s)))
 
 -- a fill stores ascending
-abbrev pub fillRead : Job → State → Turn
+unfoldable pub fillRead : Job → State → Turn
 fillRead job s =
     let n = fillCount (s .held) in
     judged (firstBroken (rangeRules (job .unit) (address (s .held)) n)) s
@@ -147,15 +147,15 @@ fillRead job s =
       stores = storesFrom (address (s .held)) (replicate n (pattern (s .held)));
     })
 
-abbrev pub entryRead : Job → State → Turn
+unfoldable pub entryRead : Job → State → Turn
 entryRead job s =
     judged (firstBroken (entryRules (job .unit) (address (s .held)))) s
     (still (finished job (tallied (withEntry (address (s .held)) (s .tally)) s)))
 
-abbrev pub checkRead : Job → State → Turn
+unfoldable pub checkRead : Job → State → Turn
 checkRead job s = judged (firstBroken (checkRules (job .unit) (s .held))) s (still (finished job s))
 
-abbrev pub parametersRead : Job → Command → State → Turn
+unfoldable pub parametersRead : Job → Command → State → Turn
 parametersRead job Write s = writeRead job s
 parametersRead job Fill s = fillRead job s
 parametersRead job Entry s = entryRead job s

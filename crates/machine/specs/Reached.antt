@@ -1,0 +1,9 @@
+-- The states that a run comes to: those that the calls which take a piece of the file at a time may be given.
+use mathlib.Core.Path.{_≡_}
+use mathlib.Core.List.{List}
+use Prim.Native.Nat.{ℕ}
+use Rattle.machine.specs.Machine.{Job, State, begun, run}
+
+-- some bytes, from the first of the file on, lead to s
+abbrev pub Reached : Job → State → Type 0
+Reached job s = (bytes : List ℕ) × (s ≡ run job (begun job) bytes)
