@@ -1,2 +1,3 @@
 pub mod NumberLaws
 pub mod PartLaws
+pub mod TestLaws
