@@ -5,7 +5,7 @@ use Prim.Native.Nat.{ℕ}
 use Rattle.machine.specs.Machine.{Job, State, Store, Turn, react, step, run, trace, begun, still}
 use Rattle.machine.specs.Reached.{Reached}
 use Rattle.machine.specs.declared.Phase.{Phase}
-use Rattle.machine.specs.declared.Phase.the-variants.{Magic, Header, Parameters, Storing, Skipping, Stopped}
+use Rattle.machine.specs.declared.Phase.the-variants.{Stopped}
 
 -- ---- joined bytes
 
