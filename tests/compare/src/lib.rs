@@ -1,4 +1,3 @@
-//! The proved library as Rust sees it, and what the comparisons with the second program share.
+//! The proved library as Rust sees it.
 
-pub mod lent;
 pub mod library;

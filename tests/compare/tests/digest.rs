@@ -1,7 +1,7 @@
 //! `probe_digest` against the second program's hashes.
 
-use compare::{lent::Lent, library};
-use second::{random::Random, sha2};
+use compare::library;
+use second::{cases::lent::Lent, random::Random, sha2};
 
 const IDS: [u64; 3] = [2, 3, 4];
 const UNKNOWN: [u64; 5] = [0, 1, 5, 65538, u64::MAX];
@@ -11,7 +11,7 @@ fn digest(id: u64, message: &[u8], out_length: usize) -> (u64, Vec<u8>) {
     let mut message = Lent::new(message);
     let mut out = Lent::new(&vec![0x77; out_length]);
     let length = library::digest(id, message.bytes(), out.bytes());
-    (length, out.back())
+    (length, out.back().0)
 }
 
 fn agree(id: u64, message: &[u8]) {

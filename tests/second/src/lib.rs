@@ -1,5 +1,8 @@
 //! The second program: what the proved library does, written once more in Rust
 //! from FIPS 180-4 and document 01 alone, to compare the two.
 
+pub mod answer;
+pub mod cases;
 pub mod random;
+pub mod sbs;
 pub mod sha2;

@@ -30,6 +30,12 @@ impl Random {
         from[self.below(from.len() as u64) as usize].clone()
     }
 
+    /// One of the elements, if there are any.
+    pub fn one_of<'a, T>(&mut self, from: &'a mut [T]) -> Option<&'a mut T> {
+        let n = from.len() as u64;
+        (n != 0).then(|| &mut from[self.below(n) as usize])
+    }
+
     pub fn bytes(&mut self, length: usize) -> Vec<u8> {
         (0..length).map(|_| self.number() as u8).collect()
     }

@@ -22,6 +22,16 @@ pub fn digest(id: u64, message: &[u8]) -> Vec<u8> {
     }
 }
 
+/// The length of an ID's digest, 0 for an unknown one.
+pub fn digest_length(id: u64) -> usize {
+    match id {
+        2 => 32,
+        3 => 48,
+        4 => 64,
+        _ => 0,
+    }
+}
+
 /// The first OUT bytes that the state's words spell (6.2.2, 6.4.2, 6.5: the leftmost bits).
 fn bytes_of<W: Copy, const B: usize, const OUT: usize>(
     state: [W; 8],
