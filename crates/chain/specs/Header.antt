@@ -78,13 +78,16 @@ fieldRules d size expected =
 abbrev pub blocksStart : List ℕ → ℕ
 blocksStart approved = length approved + headerOf approved .signature
 
--- 1, 4 to 12, in this order: what an image gets before any block is looked at
-abbrev pub streamRules : List ℕ → List ℕ → ℕ → List Rule
-streamRules image approved expected =
-    signatureRules expected
-    ++ sizeRules (length image)
-    ++ rule 4 (ltb (length approved) 36)
+-- 4 to 12, in this order: what an image gets by its approved header
+abbrev pub imageRules : List ℕ → List ℕ → ℕ → List Rule
+imageRules image approved expected =
+    rule 4 (ltb (length approved) 36)
     ∷ rule 4 (not (same (take (length approved) image) approved))
     ∷ fieldRules (headerOf approved) (length approved) expected
     ++ rule 12 (not (eqb (length image) (blocksStart approved + headerOf approved .count * headerOf approved .blockSize)))
     ∷ []
+
+-- 1, then 4 to 12: what an image gets before any block is looked at, where neither map nor table is asked for
+abbrev pub streamRules : List ℕ → List ℕ → ℕ → List Rule
+streamRules image approved expected =
+    signatureRules expected ++ sizeRules (length image) ++ imageRules image approved expected
