@@ -6,7 +6,7 @@ use native.Mathlib.Nat.{mul-comm, mul-assoc, pow-suc, zero-add, suc-add, mod-lt,
 use native.Mathlib.Omega.{arith}
 use lib.Arith.{mod-mul, digits-div, digits-mod, digits-lt}
 use lib.Bits.{bitOr, or-shifted-r}
-use lib.ListN.{length, getD, length-append, length-reverse}
+use lib.ListN.{length, getD, length-reverse}
 use lib.Pow.{shl-exact}
 use Rattle.octets.specs.Numbers.{little, littleBytes, big, bigBytes}
 use Rattle.octets.specs.Parts.{part, put, Octets}
@@ -131,7 +131,7 @@ big-lt s h = subst (λ (n : ℕ). big s < 256 ^ n) (length-reverse s) (little-lt
 
 -- ---- writing: two halves, side by side, are the bytes of the whole
 
-littleBytes-add : (m n x : ℕ) → littleBytes (m + n) x ≡ littleBytes m x ++ littleBytes n (x / 256 ^ m)
+pub littleBytes-add : (m n x : ℕ) → littleBytes (m + n) x ≡ littleBytes m x ++ littleBytes n (x / 256 ^ m)
 unfolding littleBytes
 littleBytes-add zero n x = ap₂ littleBytes (zero-add n) (sym (div-one x))
 littleBytes-add (suc m) n x =
@@ -142,7 +142,7 @@ littleBytes-add (suc m) n x =
     (div-div-eq-div-mul x 256 (256 ^ m) ∙ ap (λ (k : ℕ). x / k) (mul-comm 256 (256 ^ m) ∙ sym (pow-suc 256 m))))
 
 -- the bytes above the n lowest don't matter to these
-littleBytes-mod : (n x : ℕ) → littleBytes n (x % 256 ^ n) ≡ littleBytes n x
+pub littleBytes-mod : (n x : ℕ) → littleBytes n (x % 256 ^ n) ≡ littleBytes n x
 littleBytes-mod n x =
     ap₂ littleBytes (sym (length-littleBytes n x)) (sym (little-littleBytes n x))
     ∙ littleBytes-little (littleBytes n x) (octets-littleBytes n x)

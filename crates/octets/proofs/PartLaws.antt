@@ -1,12 +1,12 @@
 -- Laws of parts of byte lists, and of what a loop that stores byte by byte leaves.
-use mathlib.Core.Path.{_≡_, refl, sym, ap, ap₂, _∙_, subst}
+use mathlib.Core.Path.{_≡_, sym, ap, ap₂, _∙_}
 use mathlib.Core.List.{List, [], _∷_, _++_, append-assoc}
 use Prim.Native.Nat.{ℕ, zero, suc, _+_, _-_, _≤_, _<_}
 use native.Mathlib.Nat.{le-antisymm, add-sub-of-le, zero-add, suc-add, add-assoc}
 use native.Mathlib.Numerals.{add-one}
 use native.Mathlib.Omega.{arith}
 use lib.ListN.{length, getD, set, take, drop, replicate, length-append, length-take, length-drop, length-replicate, getD-replicate}
-use lib.Seq.{paste, paste-suc, take-length, take-nil, take-add, take-at, drop-at, take-take, drop-drop, drop-cons, getD-drop, length-take-le, take-append-seam, take-append-le, sets, sets-eq}
+use lib.Seq.{paste, paste-suc, take-length, take-nil, take-add, take-at, drop-at, take-take, drop-drop, drop-cons, getD-drop, length-take-le, take-append-le, sets-eq}
 use Rattle.octets.specs.Parts.{part, put, Octets}
 
 -- ---- a part
