@@ -1,0 +1,212 @@
+-- Laws of the chain of blocks: how many are proved, turn by turn, and the file that they hold.
+use mathlib.Core.Path.{_≡_, refl, sym, ap, ap₂, _∙_}
+use mathlib.Core.Bool.{Bool, true, false}
+use mathlib.Core.List.{List, [], _∷_, _++_, append-assoc}
+use mathlib.Core.Logic.{⊎-elim}
+use Prim.Native.Nat.{ℕ, zero, suc, _+_, _-_, _*_, _≤_, _<_}
+use native.Mathlib.Nat.{eq-or-lt-of-le, zero-add}
+use native.Mathlib.Omega.{arith}
+use borrow.Author.Tests.{eqb-true, eqb-false}
+use lib.Dec.{eqb, eqb·suc-zero}
+use lib.ListN.{length, take, drop, length-append, length-drop}
+use lib.Seq.{take-append-seam, take-append-le, take-length}
+use Rattle.octets.specs.Parts.{put}
+use Rattle.octets.proofs.PartLaws.{put-beside}
+use Rattle.answers.specs.Rules.{pick, firstBroken}
+use Rattle.chain.specs.Blocks.{hashField, paddingOf, blockRules, blockCode, expected, fileBytes, proved, fileUpTo}
+use Rattle.chain.specs.Header.{Header, dataLength, fileLength}
+
+-- ---- one more block: with m of n proved and the next block's code c, m′ of n + 1 are
+
+pub data Turn (n m m′ c : ℕ) : Type 0 where
+  -- all were, and the next is
+  went : m ≡ n → c ≡ 0 → m′ ≡ suc n → Turn n m m′ c
+  -- all were, and the next is not
+  stopped : m ≡ n → (c ≡ 0 → ⊥) → m′ ≡ n → Turn n m m′ c
+  -- not all were, and so it stays
+  held : m < n → m′ ≡ m → Turn n m m′ c
+
+turn-of : (n m c : ℕ) → m ≤ n → Turn n m (pick (eqb m n) (pick (eqb c 0) (suc n) n) m) c
+turn-of n m c h = go (eqb m n) (eqb c 0) refl refl
+  where
+    go : (a b : Bool) → eqb m n ≡ a → eqb c 0 ≡ b → Turn n m (pick a (pick b (suc n) n) m) c
+    go true true p q = went (eqb-true m n p) (eqb-true c 0 q) refl
+    go true false p q = stopped (eqb-true m n p) (eqb-false c 0 q) refl
+    go false b p q = held (let ne : (m ≡ n → ⊥) = eqb-false m n p in omega arith) refl
+
+module _ (d : Header) (block : ℕ → List ℕ) where
+  pub proved-le : (n : ℕ) → proved d block n ≤ n
+  unfolding proved
+  proved-le zero = omega arith
+  proved-le (suc n) = go (turn-of n (proved d block n) (blockCode d block n) (proved-le n))
+    where
+      go : Turn n (proved d block n) (proved d block (suc n)) (blockCode d block n) → proved d block (suc n) ≤ suc n
+      go (went p q r) = omega arith
+      go (stopped p q r) = omega arith
+      go (held p r) = omega arith
+
+  pub turn : (n : ℕ) → Turn n (proved d block n) (proved d block (suc n)) (blockCode d block n)
+  unfolding proved
+  turn n = turn-of n (proved d block n) (blockCode d block n) (proved-le n)
+
+  -- a block that passes behind proved ones is proved
+  pub goes-on : (n : ℕ) → proved d block n ≡ n → blockCode d block n ≡ 0 → proved d block (suc n) ≡ suc n
+  goes-on n p q = go (turn n)
+    where
+      go : Turn n (proved d block n) (proved d block (suc n)) (blockCode d block n) → proved d block (suc n) ≡ suc n
+      go (went _ _ r) = r
+      go (stopped _ ne r) = absurd (ne q)
+      go (held l r) = omega arith
+
+  -- one that does not holds the count, however many blocks follow
+  pub holds : (n : ℕ) → proved d block n < n → (m : ℕ) → n ≤ m → proved d block m ≡ proved d block n
+  holds n h zero l = omega arith
+  holds n h (suc m) l =
+      ⊎-elim (λ e. ap (proved d block) (sym e)) (λ s. go (turn m) (omega arith) (holds n h m (omega arith)))
+      (eq-or-lt-of-le l)
+    where
+      go : Turn m (proved d block m) (proved d block (suc m)) (blockCode d block m) → n ≤ m
+          → proved d block m ≡ proved d block n → proved d block (suc m) ≡ proved d block n
+      go (went p q r) b e = omega arith
+      go (stopped p q r) b e = omega arith
+      go (held p r) b e = r ∙ e
+
+  pub stops : (k n : ℕ) → k < n → proved d block k ≡ k → (blockCode d block k ≡ 0 → ⊥) → proved d block n ≡ k
+  stops k n h p ne = go (turn k)
+    where
+      go : Turn k (proved d block k) (proved d block (suc k)) (blockCode d block k) → proved d block n ≡ k
+      go (went _ q _) = absurd (ne q)
+      go (stopped _ _ r) = holds (suc k) (omega arith) n h ∙ r
+      go (held l _) = omega arith
+
+  -- of the blocks before a proved one all are, and they pass
+  pub proved-before : (n i : ℕ) → i ≤ proved d block n → proved d block i ≡ i
+  proved-before zero i h = let z : proved d block zero ≤ zero = proved-le zero in let e : i ≡ zero = omega arith in rw e (omega arith)
+  proved-before (suc n) i h = go (turn n) (proved-before n i)
+    where
+      go : Turn n (proved d block n) (proved d block (suc n)) (blockCode d block n)
+          → (i ≤ proved d block n → proved d block i ≡ i) → proved d block i ≡ i
+      go (went p q r) f =
+          let l : i ≤ suc n = omega arith in
+          ⊎-elim (λ e. ap (proved d block) e ∙ r ∙ sym e) (λ s. f (omega arith)) (eq-or-lt-of-le l)
+      go (stopped p q r) f = f (omega arith)
+      go (held p r) f = f (omega arith)
+
+  pub passes : (n i : ℕ) → i < proved d block n → blockCode d block i ≡ 0
+  passes n i h = go (turn i)
+    where
+      go : Turn i (proved d block i) (proved d block (suc i)) (blockCode d block i) → blockCode d block i ≡ 0
+      go (went p q r) = q
+      go (stopped p q r) = omega (arith, proved-before n (suc i) h)
+      go (held p r) = omega (arith, proved-before n (suc i) h)
+
+  pub proved-more : (m n : ℕ) → m ≤ n → proved d block m ≤ proved d block n
+  proved-more m zero h = let e : m ≡ zero = omega arith in rw e (omega arith)
+  proved-more m (suc n) h =
+      ⊎-elim (λ e. rw e (omega arith)) (λ s. go (turn n) (proved-more m n (omega arith))) (eq-or-lt-of-le h)
+    where
+      go : Turn n (proved d block n) (proved d block (suc n)) (blockCode d block n) → proved d block m ≤ proved d block n
+          → proved d block m ≤ proved d block (suc n)
+      go (went p q r) l = omega arith
+      go (stopped p q r) l = omega arith
+      go (held p r) l = omega arith
+
+  -- the first that is not proved doesn't
+  pub fails : (n : ℕ) → proved d block n < n → blockCode d block (proved d block n) ≡ 0 → ⊥
+  fails n h q =
+      let m : ℕ = proved d block n in
+      omega (arith, goes-on m (proved-before n m (omega arith)) q, proved-more (suc m) n h)
+
+  -- all are proved just where all pass
+  pub all-pass : (n : ℕ) → ((k : ℕ) → k < n → blockCode d block k ≡ 0) → proved d block n ≡ n
+  unfolding proved
+  all-pass zero f = refl
+  all-pass (suc n) f = goes-on n (all-pass n (λ k h. f k (omega arith))) (f n (omega arith))
+
+  pub pass-all : (n : ℕ) → proved d block n ≡ n → (k : ℕ) → k < n → blockCode d block k ≡ 0
+  pass-all n e k h = passes n k (omega arith)
+
+-- ---- streams that agree in their first blocks
+
+abbrev pub Agree : ℕ → (ℕ → List ℕ) → (ℕ → List ℕ) → Type 0
+Agree n block block′ = (i : ℕ) → i < n → block i ≡ block′ i
+
+module _ (d : Header) (block block′ : ℕ → List ℕ) where
+  pub code-agrees : (k : ℕ) → Agree (suc k) block block′ → blockCode d block k ≡ blockCode d block′ k
+  code-agrees zero a = ap (λ (b : List ℕ). firstBroken (blockRules d zero (d .root) b)) (a zero (omega arith))
+  code-agrees (suc k) a =
+      ap₂ (λ (b c : List ℕ). firstBroken (blockRules d (suc k) (hashField d b) c)) (a k (omega arith)) (a (suc k) (omega arith))
+
+  pub proved-agrees : (n : ℕ) → Agree n block block′ → proved d block n ≡ proved d block′ n
+  unfolding proved
+  proved-agrees zero a = refl
+  proved-agrees (suc n) a =
+      ap₂ (λ (m c : ℕ). pick (eqb m n) (pick (eqb c 0) (suc n) n) m) (proved-agrees n (λ i h. a i (omega arith)))
+      (code-agrees n a)
+
+  pub file-agrees : (n : ℕ) → Agree n block block′ → fileUpTo d block n ≡ fileUpTo d block′ n
+  unfolding fileUpTo
+  file-agrees zero a = refl
+  file-agrees (suc n) a =
+      ap₂ (λ (f b : List ℕ). f ++ fileBytes d n b) (file-agrees n (λ i h. a i (omega arith))) (a n (omega arith))
+
+-- ---- the file
+
+-- only the first block is padded
+pub unpadded : (d : Header) (k : ℕ) → paddingOf d (suc k) ≡ 0
+unpadded d k = ap (λ (b : Bool). pick b (d .padding) 0) (eqb·suc-zero k)
+
+module _ (d : Header) (block : ℕ → List ℕ) where
+  pub file-none : fileUpTo d block zero ≡ []
+  unfolding fileUpTo
+  file-none = refl
+
+  pub file-more : (n : ℕ) → fileUpTo d block (suc n) ≡ fileUpTo d block n ++ fileBytes d n (block n)
+  unfolding fileUpTo
+  file-more n = refl
+
+  length-more : (n : ℕ) → length (fileUpTo d block (suc n))
+      ≡ length (fileUpTo d block n) + (length (block n) - (d .hashsumLength + paddingOf d n))
+  length-more n =
+      ap length (file-more n) ∙ length-append (fileUpTo d block n) (fileBytes d n (block n))
+      ∙ ap (λ (k : ℕ). length (fileUpTo d block n) + k) (length-drop (d .hashsumLength + paddingOf d n) (block n))
+
+  pub file-grows : (m n : ℕ) → m ≤ n → length (fileUpTo d block m) ≤ length (fileUpTo d block n)
+  file-grows m zero h = let e : m ≡ zero = omega arith in rw e (omega arith)
+  file-grows m (suc n) h =
+      ⊎-elim (λ e. rw e (omega arith)) (λ s. omega (arith, file-grows m n (omega arith), length-more n)) (eq-or-lt-of-le h)
+
+  -- what fewer blocks hold begins what more hold
+  pub file-begins : (m n : ℕ) → m ≤ n → take (length (fileUpTo d block m)) (fileUpTo d block n) ≡ fileUpTo d block m
+  file-begins m zero h = let e : m ≡ zero = omega arith in rw e (take-length (fileUpTo d block zero))
+  file-begins m (suc n) h =
+      ⊎-elim (λ e. rw e (take-length (fileUpTo d block (suc n))))
+      (λ s. rw file-more
+      (take-append-le (length (fileUpTo d block m)) (fileUpTo d block n) (fileBytes d n (block n))
+      (file-grows m n (omega arith))
+      ∙ file-begins m n (omega arith))) (eq-or-lt-of-le h)
+
+  -- the turn of a loop that copies the file out
+  pub put-more : (output : List ℕ) (n : ℕ) → length (fileUpTo d block (suc n)) ≤ length output
+      → put (put output 0 (fileUpTo d block n)) (length (fileUpTo d block n)) (fileBytes d n (block n))
+      ≡ put output 0 (fileUpTo d block (suc n))
+  put-more output n h =
+      let l : length (fileUpTo d block (suc n)) ≡ length (fileUpTo d block n) + length (fileBytes d n (block n)) =
+      ap length (file-more n) ∙ length-append (fileUpTo d block n) (fileBytes d n (block n)) in
+      ap (λ (at : ℕ). put (put output 0 (fileUpTo d block n)) at (fileBytes d n (block n)))
+      (sym (zero-add (length (fileUpTo d block n))))
+      ∙ put-beside output 0 (length (fileUpTo d block n)) (fileUpTo d block n) (fileBytes d n (block n)) refl (omega arith)
+      ∙ ap (λ (f : List ℕ). put output 0 f) (sym (file-more n))
+
+  -- file length = block count x block data length - padding length, also of the first blocks
+  pub length-file : (n : ℕ) → ((k : ℕ) → k < n → length (block k) ≡ d .blockSize) → d .padding ≤ dataLength d
+      → 0 < n → length (fileUpTo d block n) ≡ n * dataLength d - d .padding
+  length-file zero sized small pos = omega arith
+  length-file (suc zero) sized small pos =
+      length-more zero ∙ ap₂ (λ (x y : ℕ). x + (y - (d .hashsumLength + d .padding))) (ap length file-none) (sized zero (omega arith))
+      ∙ omega arith
+  length-file (suc (suc n)) sized small pos =
+      length-more (suc n)
+      ∙ ap₂ (λ (x y : ℕ). x + y) (length-file (suc n) (λ k h. sized k (omega arith)) small (omega arith))
+      (ap₂ (λ (x y : ℕ). x - (d .hashsumLength + y)) (sized (suc n) (omega arith)) (unpadded d n))
+      ∙ omega arith

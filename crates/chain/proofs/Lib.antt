@@ -1,0 +1,4 @@
+pub mod BlockLaws
+pub mod DigestLaws
+pub mod HashsumLaws
+pub mod RuleLaws
