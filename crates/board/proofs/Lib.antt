@@ -1,0 +1,4 @@
+pub mod MapLaws
+pub mod RunLaws
+pub mod TableLaws
+pub mod Theorems
