@@ -2,7 +2,9 @@
 //! from FIPS 180-4 and document 01 alone, to compare the two.
 
 pub mod answer;
+pub mod board;
 pub mod cases;
+pub mod machine;
 pub mod random;
 pub mod sbs;
 pub mod sha2;

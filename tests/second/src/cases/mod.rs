@@ -1,6 +1,8 @@
 //! Generated cases of the calls, and the comparison of two programs on them.
 
+pub mod commands;
 pub mod lent;
+pub mod run_lines;
 pub mod sbs;
 pub mod sbs_lines;
 
