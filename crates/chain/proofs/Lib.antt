@@ -1,4 +1,5 @@
 pub mod BlockLaws
 pub mod DigestLaws
 pub mod HashsumLaws
+pub mod HeaderLaws
 pub mod RuleLaws
