@@ -24,7 +24,7 @@ trace-append job s (x ∷ xs) ys =
 
 -- ---- a run that has stopped
 
-step-stopped : (job : Job) (s : State) (b : ℕ) {code place : ℕ} → s .phase ≡ Stopped code place → step job s b ≡ still s
+pub step-stopped : (job : Job) (s : State) (b : ℕ) {code place : ℕ} → s .phase ≡ Stopped code place → step job s b ≡ still s
 unfolding react
 step-stopped job s b e = ap (λ (p : Phase). react p job s b) e
 

@@ -1,0 +1,100 @@
+-- What holds after any bytes: every state that a run comes to stands, and the bounds that follow.
+use mathlib.Core.Bool.{true}
+use mathlib.Core.Path.{_≡_, sym, ap, subst, _∙_}
+use mathlib.Core.List.{List, [], _∷_}
+use mathlib.Core.Logic.{_⊎_, inl, inr}
+use Prim.Native.Nat.{ℕ, suc, _+_, _*_, _^_, _≤_}
+use native.Mathlib.Nat.{add-zero}
+use native.Mathlib.Omega.{arith}
+use lib.ListN.{length}
+use Rattle.board.specs.Map.{ordered, total}
+use Rattle.board.proofs.MapLaws.{ordered-means, offset-fits}
+use Rattle.machine.specs.Machine.{Job, State, Store, Turn, step, run, begun, still}
+use Rattle.machine.specs.Reached.{Reached}
+use Rattle.machine.specs.declared.Phase.the-variants.{Stopped}
+use Rattle.machine.proofs.MemoryLaws.{length-storesFrom}
+use Rattle.machine.proofs.Runs.{step-stopped, run-stopped}
+use Rattle.machine.proofs.Standing.{Stands, Proper, Along, Running, running-or-stopped, react-stands, stands-below, begun-stands}
+
+-- ---- what each step keeps, a run keeps
+
+module _ (job : Job) where
+  -- a step of a state that stands: a turn that uses a byte, or nothing
+  pub step-cases : (P : Turn → Type 0) (s : State) (b : ℕ) → Stands job s
+      → (Running (s .phase) → Proper job (suc (s .next)) (s .tally) (step job s b) → P (step job s b)) → P (still s)
+      → P (step job s b)
+  step-cases P s b h f g = go (running-or-stopped (s .phase))
+    where
+      go : Running (s .phase) ⊎ ((code : ℕ) × (place : ℕ) × (s .phase ≡ Stopped code place)) → P (step job s b)
+      go (inl r) = f r (react-stands job s b h r)
+      go (inr (code, place, e)) = rw (step-stopped job s b e) g
+
+  pub step-stands : (s : State) (b : ℕ) → Stands job s → Stands job (step job s b .state)
+  step-stands s b h =
+      step-cases (λ (t : Turn). Stands job (t .state)) s b h
+      (λ r t. record {
+        order = t .order;
+        inside = omega (arith, t .next, stands-below job s h r);
+        counted = omega (arith, t .next, t .commands, h .counted);
+        meant = t .meant;
+      })
+      h
+
+  pub run-keeps : (P : State → Type 0) → ((s : State) (b : ℕ) → Stands job s → P s → P (step job s b .state)) → (s : State) (xs : List ℕ)
+      → Stands job s → P s → P (run job s xs)
+  unfolding run
+  run-keeps P f s [] h p = p
+  run-keeps P f s (x ∷ xs) h p = run-keeps P f (step job s x .state) xs (step-stands s x h) (f s x h p)
+
+  pub run-stands : (s : State) (xs : List ℕ) → Stands job s → Stands job (run job s xs)
+  run-stands s xs h = run-keeps (Stands job) (λ t b i j. step-stands t b i) s xs h h
+
+  -- every state that begin and earlier pieces give stands
+  pub reached-stands : (s : State) → Reached job s → Stands job s
+  reached-stands s (bytes, e) = rw e (run-stands (begun job) bytes (begun-stands job))
+
+  -- with a map that is taken, each byte of the file causes at most 2^32 stores
+  module _ (taken : ordered 0 (job .unit .map) ≡ true) (size : total (job .unit .map) ≤ 2 ^ 32) where
+    along-few : (xs : List Store) → Along (job .unit) xs → length xs ≤ 2 ^ 32
+    along-few xs (a, bs, e, r, l) =
+        omega (arith, ap length e ∙ length-storesFrom a bs, offset-fits 0 (job .unit .map) (ordered-means 0 (job .unit .map) taken) a (length bs) r, size)
+
+    pub reached-stored : (s : State) → Reached job s → s .tally .stored ≤ 2 ^ 32 * s .next
+    reached-stored s (bytes, e) =
+        rw e (run-keeps (λ (t : State). t .tally .stored ≤ 2 ^ 32 * t .next)
+        (λ t b h p. step-cases (λ (u : Turn). u .state .tally .stored ≤ 2 ^ 32 * u .state .next) t b h
+        (λ r u. omega (arith, u .next, u .stored, along-few (step job t b .stores) (u .along), p)) p)
+        (begun job) bytes (begun-stands job) (omega arith))
+
+  -- ---- bytes used
+
+  -- a run that has not stopped has used every byte
+  pub run-used : (s : State) (xs : List ℕ) → Stands job s → Running (run job s xs .phase) → run job s xs .next ≡ s .next + length xs
+  unfolding run
+  run-used s [] h r = sym (add-zero (s .next))
+  run-used s (x ∷ xs) h r = go (running-or-stopped (s .phase)) (run-used (step job s x .state) xs (step-stands s x h) r)
+    where
+      go : Running (s .phase) ⊎ ((code : ℕ) × (place : ℕ) × (s .phase ≡ Stopped code place))
+          → run job (step job s x .state) xs .next ≡ step job s x .state .next + length xs
+          → run job (step job s x .state) xs .next ≡ s .next + suc (length xs)
+      go (inl q) below = omega (arith, below, react-stands job s x h q .next)
+      go (inr (code, place, e)) below = absurd (subst Running (ap (λ (t : State). t .phase) (run-stopped job s (x ∷ xs) e) ∙ e) r)
+
+  -- a run over as many bytes as the file has stopped
+  pub whole-stopped : (xs : List ℕ) → length xs ≡ job .fileLength
+      → (code : ℕ) × (place : ℕ) × (run job (begun job) xs .phase ≡ Stopped code place)
+  whole-stopped xs e = go (running-or-stopped (run job (begun job) xs .phase))
+    where
+      end : State
+      end = run job (begun job) xs
+
+      go : Running (end .phase) ⊎ ((code : ℕ) × (place : ℕ) × (end .phase ≡ Stopped code place))
+          → (code : ℕ) × (place : ℕ) × (end .phase ≡ Stopped code place)
+      go (inr h) = h
+      go (inl r) =
+          absurd (omega (
+            arith,
+            e,
+            run-used (begun job) xs (begun-stands job) r,
+            stands-below job end (run-stands (begun job) xs (begun-stands job)) r,
+          ))
