@@ -1,4 +1,5 @@
 pub mod Bare
+pub mod Code
 pub mod Commands
 pub mod Machine
 pub mod Memory

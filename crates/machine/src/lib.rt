@@ -1,4 +1,6 @@
 // The command machine: what the proved bytes of a command file do to a unit.
+pub mod commands;
+pub mod steps;
 
 // What the next byte is read as.
 pub enum Phase {
@@ -32,4 +34,24 @@ pub struct Tally {
     pub stored: u64,
     pub entry: u64,
     pub entered: bool,
+}
+
+// Where a run stands between two pieces. The bytes so far of the magic, or of the command's header and parameters,
+// are the first `kept` of `held`; `start` and `next` are the file offsets of the command's first byte and of the next byte.
+pub struct Machine {
+    pub phase: Phase,
+    pub held: [u8; 104],
+    pub kept: usize,
+    pub start: u64,
+    pub next: u64,
+    pub tally: Tally,
+}
+
+// A machine while it takes a piece: without its held bytes, so that these are not copied at each step.
+pub struct Control {
+    pub phase: Phase,
+    pub kept: usize,
+    pub start: u64,
+    pub next: u64,
+    pub tally: Tally,
 }
