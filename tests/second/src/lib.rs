@@ -4,6 +4,7 @@
 pub mod answer;
 pub mod board;
 pub mod cases;
+pub mod load;
 pub mod machine;
 pub mod random;
 pub mod sbs;

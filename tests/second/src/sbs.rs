@@ -62,7 +62,7 @@ pub struct Image<'a> {
 
 impl<'a> Image<'a> {
     pub fn judge(image: &'a [u8], header: &[u8], expected: u64) -> Result<Image<'a>, u64> {
-        rule(1, signature_allowed(expected) && image.len() <= LARGEST)?;
+        arguments(image, expected)?;
         rule(4, header.len() >= field::ROOT && image.starts_with(header))?;
         let get = |f| field::get(header, f);
         rule(5, get(field::MAGIC) == MAGIC)?;
@@ -122,6 +122,11 @@ impl<'a> Image<'a> {
         rule(15, k + 1 < self.count || zero(hash))?;
         Ok(data)
     }
+}
+
+/// 1 for the expected signature length or the image's size.
+pub fn arguments(image: &[u8], expected: u64) -> Result<(), u64> {
+    rule(1, signature_allowed(expected) && image.len() <= LARGEST)
 }
 
 fn signature_allowed(length: u64) -> bool {

@@ -2,6 +2,8 @@
 
 pub mod commands;
 pub mod lent;
+pub mod load;
+pub mod load_lines;
 pub mod run_lines;
 pub mod sbs;
 pub mod sbs_lines;

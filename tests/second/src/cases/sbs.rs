@@ -301,8 +301,8 @@ impl Case for OpenCase {
 
     fn run(&self, call: Open) -> Outcome {
         let s = &self.stream;
-        let [mut image, mut header] = [&s.image, &s.header].map(|bytes| Lent::new(bytes));
-        let [mut output, mut answer] = [&self.output, &self.answer].map(|bytes| Lent::new(bytes));
+        let [mut image, mut header, mut output, mut answer] =
+            [&s.image, &s.header, &self.output, &self.answer].map(|bytes| Lent::new(bytes));
         let code = call(
             image.bytes(),
             header.bytes(),
