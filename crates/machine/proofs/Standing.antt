@@ -46,8 +46,9 @@ Meant job Parameters s =
     × (s .start + 16 + dataLength (s .held) ≤ job .fileLength)
 Meant job (Storing a left) s =
     (0 < left) × (s .next + left ≤ job .fileLength) × (ram (job .unit .map) a left ≡ true)
-    × (a + left ≤ job .unit .reach)
-Meant job (Skipping left) s = (0 < left) × (s .next + left ≤ job .fileLength)
+    × (a + left ≤ job .unit .reach) × (commandOf (s .held) ≡ Write)
+Meant job (Skipping left) s =
+    (0 < left) × (s .next + left ≤ job .fileLength) × (commandOf (s .held) ≡ Skip)
 Meant job (Stopped code place) s = Ended job s code
 
 pub record Stands (job : Job) (s : State) : Type 0 where
@@ -166,7 +167,7 @@ module _ (job : Job) (u : State) (order : u .start ≤ u .next) where
     passed-proper Skip n q d known right fits =
         pick-cases (λ (t : State). Proper job (u .next) (u .tally) (still t)) (eqb n 0) _ _
         (λ e. finished-proper job u order (omega arith))
-        (λ e. turned-proper job u order (Skipping n) (omega (arith, eqb-false n 0 e), fits))
+        (λ e. turned-proper job u order (Skipping n) (omega (arith, eqb-false n 0 e), fits, q))
     passed-proper Unknown n q d known right fits = absurd (true≢false known)
 
     header-proper : u .next ≤ job .fileLength → Proper job (u .next) (u .tally) (headerRead job u)
@@ -204,16 +205,16 @@ range-holds unit a n h = (
 )
 
 module _ (job : Job) (u : State) (order : u .start ≤ u .next) where
-  write-proper : u .next + (dataLength (u .held) - 8) ≤ job .fileLength → Proper job (u .next) (u .tally) (writeRead job u)
+  write-proper : commandOf (u .held) ≡ Write → u .next + (dataLength (u .held) - 8) ≤ job .fileLength → Proper job (u .next) (u .tally) (writeRead job u)
   unfolding writeRead
-  write-proper fits =
+  write-proper q fits =
       let n = dataLength (u .held) - 8 in
       judged-proper job u order (rangeRules (job .unit) (address (u .held)) n) _ tt
       (λ z. (lit≤ tt, lit≤ tt), (λ z. (lit≤ tt, lit≤ tt), tt))
       (λ h. pick-cases (λ (t : State). Proper job (u .next) (u .tally) (still t)) (eqb n 0) _ _
       (λ e. finished-proper job u order (omega arith))
       (λ e. let r = range-holds (job .unit) (address (u .held)) n h in
-      turned-proper job u order (Storing (address (u .held)) n) (omega (arith, eqb-false n 0 e), fits, r .0, omega (arith, r .1))))
+      turned-proper job u order (Storing (address (u .held)) n) (omega (arith, eqb-false n 0 e), fits, r .0, omega (arith, r .1), q)))
 
   module _ (inside : u .next ≤ job .fileLength) where
     fill-proper : Proper job (u .next) (u .tally) (fillRead job u)
@@ -243,15 +244,15 @@ module _ (job : Job) (u : State) (order : u .start ≤ u .next) where
         (λ z. (lit≤ tt, lit≤ tt), (λ z. (lit≤ tt, lit≤ tt), (λ z. (lit≤ tt, lit≤ tt), (λ z. (lit≤ tt, lit≤ tt), (λ z. (lit≤ tt, lit≤ tt), tt)))))
         (λ h. finished-proper job u order inside)
 
-    parameters-proper : (k : Command) → 0 < judgedBytes k → u .next + (dataLength (u .held) - judgedBytes k) ≤ job .fileLength
+    parameters-proper : (k : Command) → commandOf (u .held) ≡ k → 0 < judgedBytes k → u .next + (dataLength (u .held) - judgedBytes k) ≤ job .fileLength
         → Proper job (u .next) (u .tally) (parametersRead job k u)
     unfolding parametersRead
-    parameters-proper Write h fits = write-proper fits
-    parameters-proper Fill h fits = fill-proper
-    parameters-proper Entry h fits = entry-proper
-    parameters-proper Check h fits = check-proper
-    parameters-proper Skip h fits = absurd (omega arith)
-    parameters-proper Unknown h fits = absurd (omega arith)
+    parameters-proper Write q h fits = write-proper q fits
+    parameters-proper Fill q h fits = fill-proper
+    parameters-proper Entry q h fits = entry-proper
+    parameters-proper Check q h fits = check-proper
+    parameters-proper Skip q h fits = absurd (omega arith)
+    parameters-proper Unknown q h fits = absurd (omega arith)
 
 -- ---- one byte
 
@@ -309,7 +310,7 @@ module _ (job : Job) (s : State) (b : ℕ) (order : s .start ≤ s .next) where
       (λ f. turned-proper job (kept b s) (omega arith) (s .phase)
       (rw e (omega (arith, longer), omega (arith, longer), ltb-true (length (s .held ++ (b ∷ []))) (16 + judgedBytes k) f, right, room)))
       (λ f. parameters-proper job (kept b s) (omega arith)
-      (omega (arith, longer, judged-in-data k (dataLength (s .held ++ (b ∷ []))) right)) k (omega arith)
+      (omega (arith, longer, judged-in-data k (dataLength (s .held ++ (b ∷ []))) right)) k refl (omega arith)
       (omega (arith, longer, ltb-false (length (s .held ++ (b ∷ []))) (16 + judgedBytes k) f, judged-in-data k (dataLength (s .held ++ (b ∷ []))) right)))
   react-proper (Storing a left) e r m =
       let u = used (tallied (withStored 1 (s .tally)) s) in
@@ -324,12 +325,12 @@ module _ (job : Job) (s : State) (b : ℕ) (order : s .start ≤ s .next) where
         commands = omega arith;
         stored = refl;
         along = along;
-        meant = (omega (arith, eqb-false left 1 f), omega arith, ram-next (job .unit .map) a left (m .0) (m .2), omega arith);
+        meant = (omega (arith, eqb-false left 1 f), omega arith, ram-next (job .unit .map) a left (m .0) (m .2), omega arith, m .4);
       })
   react-proper (Skipping left) e r m =
       pick-cases (λ (t : State). after (still t)) (eqb left 1) _ _
       (λ f. finished-proper job (used s) (omega arith) (omega arith))
-      (λ f. turned-proper job (used s) (omega arith) (Skipping (pred left)) (omega (arith, eqb-false left 1 f), omega arith))
+      (λ f. turned-proper job (used s) (omega arith) (Skipping (pred left)) (omega (arith, eqb-false left 1 f), omega arith, m .2))
   react-proper (Stopped code place) e r m = absurd r
 
 -- ---- all bytes
