@@ -1,0 +1,101 @@
+/* Runnelpin: the proved loader for signed block streams, as C calls it. Link with librunnelpin.a (x86-64). */
+#ifndef RUNNELPIN_H
+#define RUNNELPIN_H
+
+#include <stddef.h>
+#include <stdint.h>
+
+#ifdef __cplusplus
+extern "C" {
+#endif
+
+/*
+ * Every call answers every input: each checks all that it is given, and returns one of these codes.
+ * A slice is a pointer and its length in bytes. It may lie at any address, without alignment, and
+ * may be NULL where its length is 0. What a call writes to overlaps nothing else that is lent to it,
+ * and nothing that is lent changes during the call. Image, header, map and table may overlap.
+ */
+enum {
+    RUNNELPIN_DONE = 0,
+    RUNNELPIN_ARGUMENT = 1,          /* record not 40 bytes; mode; signature length not 1..4096; over 2^30 bytes */
+    RUNNELPIN_MAP = 2,               /* the map breaks a rule, or memory is not as long as its regions */
+    RUNNELPIN_TABLE = 3,             /* the CPUID table breaks a rule, or ends within a record */
+    RUNNELPIN_APPROVED = 4,          /* approved header under 36 bytes, or the image begins otherwise */
+    RUNNELPIN_HEADER_MAGIC = 5,
+    RUNNELPIN_HASH_ID = 6,           /* a hash ID that is not supported, or none at the first position */
+    RUNNELPIN_HASHSUM_LENGTH = 7,    /* not that of the hash IDs */
+    RUNNELPIN_HEADER_SIZE = 8,       /* not 36 + hashsum length, or not the approved header's length */
+    RUNNELPIN_SCHEME = 9,            /* signature scheme not 1 */
+    RUNNELPIN_SIGNATURE_LENGTH = 10, /* not the expected one */
+    RUNNELPIN_BLOCKS = 11,           /* block count, block size or padding */
+    RUNNELPIN_IMAGE_LENGTH = 12,     /* not header, signature field and blocks together */
+    RUNNELPIN_BLOCK_HASHSUM = 13,    /* place: the block, from 1 */
+    RUNNELPIN_BLOCK_PADDING = 14,    /* place: the block, from 1 */
+    RUNNELPIN_LAST_HASH = 15,        /* place: the block, from 1 */
+    RUNNELPIN_FILE_MAGIC = 16,       /* the command file is under 8 bytes, or begins with another magic */
+    RUNNELPIN_COMMAND_CUT = 17,      /* place from here to 26: file offset of the command's first byte */
+    RUNNELPIN_COMMAND_ID = 18,
+    RUNNELPIN_COMMAND_LENGTH = 19,
+    RUNNELPIN_NOT_REACHABLE = 20,
+    RUNNELPIN_NOT_RAM = 21,
+    RUNNELPIN_TEXT = 22,             /* a check's text has no zero byte */
+    RUNNELPIN_CPUID_MISSING = 23,    /* a check, and the table is empty */
+    RUNNELPIN_REGISTER = 24,         /* a check's result register is over 3 */
+    RUNNELPIN_NO_RECORD = 25,        /* the table has no record with the check's inputs */
+    RUNNELPIN_CHECK_FAILED = 26,
+    RUNNELPIN_NO_ENTRY = 27,         /* place: the file's length */
+    RUNNELPIN_EMPTY_FILE = 28,       /* pack */
+    RUNNELPIN_OUTPUT_LENGTH = 29     /* open, pack: not the exact length */
+};
+
+/*
+ * The answer record that open, run and load fill: five 64-bit little-endian numbers, code, place,
+ * commands done, bytes stored, entry. The entry is 0 unless the code is RUNNELPIN_DONE. A record of
+ * another length gives RUNNELPIN_ARGUMENT, and then nothing is written anywhere.
+ */
+#define RUNNELPIN_ANSWER_BYTES 40
+
+/*
+ * Where the addresses are: the map is 1 to 16 records of 16 bytes, base and length, little-endian,
+ * ascending, not overlapping, with ends at most 2^52. Memory is one contiguous slice: the regions'
+ * bytes one behind the other in map order, at most 2^32. The caller keeps image, header, stack and
+ * its own code out of every region. The CPUID table is at most 64 records of six 32-bit
+ * little-endian words: EAX and ECX inputs, then EAX, EBX, ECX and EDX results, ascending by inputs.
+ * Mode is 32 or 64.
+ */
+
+/* Proves the image block by block and runs its commands: a byte is stored as soon as its block is proved. */
+uint64_t runnelpin_load(const uint8_t *image, size_t image_length, const uint8_t *header, size_t header_length,
+                        const uint8_t *map, size_t map_length, const uint8_t *cpuid, size_t cpuid_length,
+                        uint64_t mode, uint64_t signature_length, uint8_t *memory, size_t memory_length,
+                        uint8_t *answer, size_t answer_length);
+
+/* Runs a command file that stands in no image. */
+uint64_t runnelpin_run(const uint8_t *file, size_t file_length, const uint8_t *map, size_t map_length,
+                       const uint8_t *cpuid, size_t cpuid_length, uint64_t mode, uint8_t *memory,
+                       size_t memory_length, uint8_t *answer, size_t answer_length);
+
+/* Proves the image block by block and copies out its file; output is exactly as long as the file. */
+uint64_t runnelpin_open(const uint8_t *image, size_t image_length, const uint8_t *header, size_t header_length,
+                        uint64_t signature_length, uint8_t *output, size_t output_length, uint8_t *answer,
+                        size_t answer_length);
+
+/* Writes the image of a file, its signature field zero; output is exactly as long as the image. */
+uint64_t runnelpin_pack(const uint8_t *file, size_t file_length, uint64_t id1, uint64_t id2, uint64_t id3,
+                        uint64_t id4, uint64_t block_size, uint64_t signature_length, uint8_t *output,
+                        size_t output_length);
+
+/* The signature field as a part of the image; start and length are 0 where open would give 1 or 4 to 12. */
+struct runnelpin_field {
+    uint64_t start;
+    uint64_t length;
+};
+
+struct runnelpin_field runnelpin_signature(const uint8_t *image, size_t image_length, const uint8_t *header,
+                                           size_t header_length, uint64_t signature_length);
+
+#ifdef __cplusplus
+}
+#endif
+
+#endif
