@@ -1,18 +1,21 @@
 -- Laws of the chain of blocks: how many are proved, turn by turn, and the file that they hold.
 use mathlib.Core.Path.{_≡_, refl, sym, ap, ap₂, _∙_}
-use mathlib.Core.Bool.{Bool, true, false}
+use mathlib.Core.Bool.{Bool, true, false, not}
 use mathlib.Core.List.{List, [], _∷_, _++_, append-assoc}
 use mathlib.Core.Logic.{⊎-elim}
 use Prim.Native.Nat.{ℕ, zero, suc, _+_, _-_, _*_, _≤_, _<_}
-use native.Mathlib.Nat.{eq-or-lt-of-le, zero-add}
+use native.Mathlib.Nat.{eq-or-lt-of-le, zero-add, add-zero, zero-mul, suc-mul, mul-le-mul-right, le-of-eq, le-of-suc-le-suc}
 use native.Mathlib.Omega.{arith}
-use borrow.Author.Tests.{eqb-true, eqb-false}
+use borrow.Author.Tests.{eqb-true, eqb-false, eq-eqb, not-false}
 use lib.Dec.{eqb, eqb·suc-zero}
 use lib.ListN.{length, take, drop, length-append, length-drop}
-use lib.Seq.{take-append-seam, take-append-le, take-length}
-use Rattle.octets.specs.Parts.{put}
+use lib.Seq.{take-append-le, take-length, take-all, drop-append-le, drop-drop, drop-at}
+use Rattle.octets.specs.Parts.{part, put, same, allZero}
 use Rattle.octets.proofs.PartLaws.{put-beside}
+use Rattle.octets.proofs.TestLaws.{same-eq, eq-same}
 use Rattle.answers.specs.Rules.{pick, firstBroken}
+use Rattle.answers.proofs.RuleLaws.{zero-all-hold, all-hold-zero}
+use Rattle.chain.specs.Hashsum.{hashsum}
 use Rattle.chain.specs.Blocks.{hashField, paddingOf, blockRules, blockCode, expected, fileBytes, proved, fileUpTo}
 use Rattle.chain.specs.Header.{Header, dataLength, fileLength}
 
@@ -210,3 +213,82 @@ module _ (d : Header) (block : ℕ → List ℕ) where
       ∙ ap₂ (λ (x y : ℕ). x + y) (length-file (suc n) (λ k h. sized k (omega arith)) small (omega arith))
       (ap₂ (λ (x y : ℕ). x - (d .hashsumLength + y)) (sized (suc n) (omega arith)) (unpadded d n))
       ∙ omega arith
+
+-- ---- what passes 13, 14 and 15
+
+pub record Proper (d : Header) (k : ℕ) (expected block : List ℕ) : Type 0 where
+  pub hashed : hashsum (d .ids) block ≡ expected
+  pub padded : allZero (part block (d .hashsumLength) (paddingOf d k)) ≡ true
+  pub last : suc k ≡ d .count → allZero (hashField d block) ≡ true
+
+module _ (d : Header) (k : ℕ) (expected block : List ℕ) where
+  pub proper : firstBroken (blockRules d k expected block) ≡ 0 → Proper d k expected block
+  proper e =
+      let h = zero-all-hold (blockRules d k expected block) tt e in
+      record {
+        hashed = same-eq (hashsum (d .ids) block) expected (not-false _ (h .0));
+        padded = not-false _ (h .1 .0);
+        last = λ q. not-false _
+            (ap (λ (b : Bool). pick b (not (allZero (hashField d block))) false) (sym (eq-eqb (suc k) (d .count) q))
+            ∙ h .1 .1 .0);
+      }
+
+  pub proper-passes : Proper d k expected block → firstBroken (blockRules d k expected block) ≡ 0
+  proper-passes r =
+      all-hold-zero (blockRules d k expected block) (
+        ap not (eq-same (hashsum (d .ids) block) expected (r .hashed)),
+        (ap not (r .padded), (go (eqb (suc k) (d .count)) refl, tt)),
+      )
+    where
+      go : (b : Bool) → eqb (suc k) (d .count) ≡ b → pick b (not (allZero (hashField d block))) false ≡ false
+      go true q = ap not (r .last (eqb-true (suc k) (d .count) q))
+      go false q = refl
+
+-- ---- a part that ends within the first of two lists
+
+pub part-front : (s t : List ℕ) (at n : ℕ) → at + n ≤ length s → part (s ++ t) at n ≡ part s at n
+part-front s t at n h =
+    ap (λ (l : List ℕ). take n l) (drop-append-le at s t (omega arith))
+    ∙ take-append-le n (drop at s) t (rw length-drop (omega arith))
+
+-- ---- the data of the blocks: the file behind its padding
+
+unfoldable pub dataUpTo : Header → (ℕ → List ℕ) → ℕ → List ℕ
+dataUpTo d block zero = []
+dataUpTo d block (suc n) = dataUpTo d block n ++ drop (d .hashsumLength) (block n)
+
+module _ (d : Header) (block : ℕ → List ℕ) (n : ℕ) (sized : (k : ℕ) → k < n → length (block k) ≡ d .blockSize) where
+  length-data-of : (k : ℕ) → k < n → length (drop (d .hashsumLength) (block k)) ≡ dataLength d
+  length-data-of k h = length-drop (d .hashsumLength) (block k) ∙ ap (λ (x : ℕ). x - d .hashsumLength) (sized k h)
+
+  pub length-data : (m : ℕ) → m ≤ n → length (dataUpTo d block m) ≡ m * dataLength d
+  unfolding dataUpTo
+  length-data zero h = sym (zero-mul (dataLength d))
+  length-data (suc m) h =
+      length-append (dataUpTo d block m) (drop (d .hashsumLength) (block m))
+      ∙ ap₂ (λ (x y : ℕ). x + y) (length-data m (omega arith)) (length-data-of m h) ∙ sym (suc-mul m (dataLength d))
+
+  pub file-of-data : (m : ℕ) → m < n → d .padding ≤ dataLength d
+      → fileUpTo d block (suc m) ≡ drop (d .padding) (dataUpTo d block (suc m))
+  unfolding fileUpTo dataUpTo
+  file-of-data zero h small = sym (drop-drop (d .padding) (d .hashsumLength) (block zero))
+  file-of-data (suc m) h small =
+      ap₂ (λ (f : List ℕ) (x : ℕ). f ++ drop x (block (suc m))) (file-of-data m (omega arith) small)
+      (ap (λ (x : ℕ). d .hashsumLength + x) (unpadded d m) ∙ add-zero (d .hashsumLength))
+      ∙ sym
+      (drop-append-le (d .padding) (dataUpTo d block (suc m)) (drop (d .hashsumLength) (block (suc m)))
+      (rw (length-data (suc m) (omega arith)) (omega arith)))
+
+  pub data-part : (m : ℕ) → m ≤ n → (k : ℕ) → k < m
+      → part (dataUpTo d block m) (k * dataLength d) (dataLength d) ≡ drop (d .hashsumLength) (block k)
+  unfolding dataUpTo
+  data-part zero h k l = absurd (omega arith)
+  data-part (suc m) h k l =
+      ⊎-elim
+      (λ e. rw e
+      (ap (λ (t : List ℕ). take (dataLength d) t)
+      (drop-at (dataUpTo d block m) (drop (d .hashsumLength) (block m)) (m * dataLength d) (length-data m (omega arith)))
+      ∙ take-all (dataLength d) (drop (d .hashsumLength) (block m)) (le-of-eq (length-data-of m h))))
+      (λ s. part-front (dataUpTo d block m) (drop (d .hashsumLength) (block m)) (k * dataLength d) (dataLength d)
+      (rw (length-data m (omega arith)) (omega (arith, mul-le-mul-right (dataLength d) s, suc-mul k (dataLength d))))
+      ∙ data-part m (omega arith) k s) (eq-or-lt-of-le (le-of-suc-le-suc l))

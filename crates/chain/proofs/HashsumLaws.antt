@@ -1,14 +1,19 @@
 -- Laws of hashsums: their length, and that they are bytes.
 use mathlib.Core.Path.{_≡_, refl, ap₂, _∙_}
+use mathlib.Core.Bool.{Bool, true, false, true≢false}
 use mathlib.Core.List.{List, [], _∷_, _++_}
-use Prim.Native.Nat.{ℕ, _+_, _*_, _≤_}
+use Prim.Native.Nat.{ℕ, zero, suc, _+_, _*_, _≤_, _<_}
+use native.Mathlib.Nat.{lt-of-not-le}
 use native.Mathlib.Omega.{arith}
-use lib.ListN.{length, length-append}
+use borrow.Author.Tests.{eqb-true, eqb-false}
+use lib.Dec.{eqb}
+use lib.ListN.{length, getD, length-append}
 use Rattle.octets.specs.Parts.{Octets}
 use Rattle.octets.proofs.PartLaws.{octets-append}
+use Rattle.answers.specs.Rules.{pick}
 use Rattle.hashes.specs.Digests.{digest, digestLength}
-use Rattle.chain.specs.Hashsum.{hashsum, sumLength}
-use Rattle.chain.proofs.DigestLaws.{digest-length, digest-octets, digest-at-most}
+use Rattle.chain.specs.Hashsum.{hashsum, sumLength, anyUnknown}
+use Rattle.chain.proofs.DigestLaws.{digest-length, digest-octets, digest-at-most, digest-wide}
 
 pub length-hashsum : (ids : List ℕ) (bytes : List ℕ) → length (hashsum ids bytes) ≡ sumLength ids
 unfolding hashsum sumLength
@@ -31,3 +36,20 @@ sumLength-at-most (id ∷ ids) = omega (arith, digest-at-most id, sumLength-at-m
 -- four hash IDs
 pub sumLength-four : (ids : List ℕ) → length ids ≡ 4 → sumLength ids ≤ 256
 sumLength-four ids e = omega (arith, sumLength-at-most ids)
+
+-- a known ID fits its two bytes
+known-first : (id : ℕ) (rest : Bool) → pick (eqb id 0) rest (pick (eqb (digestLength id) 0) true rest) ≡ false
+    → (id < 65536) × (rest ≡ false)
+known-first id rest e = go (eqb id 0) (eqb (digestLength id) 0) refl refl e
+  where
+    go : (a b : Bool) → eqb id 0 ≡ a → eqb (digestLength id) 0 ≡ b → pick a rest (pick b true rest) ≡ false
+        → (id < 65536) × (rest ≡ false)
+    go true b p q r = (let z : id ≡ 0 = eqb-true id 0 p in omega arith, r)
+    go false true p q r = absurd (true≢false r)
+    go false false p q r = (lt-of-not-le (λ h. eqb-false (digestLength id) 0 q (digest-wide id h)), r)
+
+pub known-narrow : (ids : List ℕ) → anyUnknown ids ≡ false → (i : ℕ) → getD ids i 0 < 65536
+unfolding anyUnknown
+known-narrow [] e i = omega arith
+known-narrow (id ∷ ids) e zero = known-first id (anyUnknown ids) e .0
+known-narrow (id ∷ ids) e (suc i) = known-narrow ids (known-first id (anyUnknown ids) e .1) i
