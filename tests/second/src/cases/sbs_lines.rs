@@ -189,6 +189,15 @@ fn open_blocks(open: Open) {
     for at in [0, sum - 1] {
         assert_eq!(change(first + 2 * 96 + at, true), [15, 3, 0, 22 + 64, 0]);
     }
+    assert_eq!(change(first + sum, false), [13, 1, 0, 0, 0]);
+    // one block that breaks 14 and 15, and not hashed again 13 as well
+    let one = sound(61);
+    let mut image = one.image.clone();
+    (image[first], image[first + sum]) = (1, 1);
+    assert_eq!(one.of(image.clone()).answer(open), [13, 1, 0, 0, 0]);
+    let (header, blocks) = image.split_at_mut(first);
+    sbs::chain(header, blocks, ONE, 96);
+    assert_eq!(one.of(image).answer(open), [14, 1, 0, 0, 0]);
 }
 
 /// Images around the largest length, which nobody has filled.
