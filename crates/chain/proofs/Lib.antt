@@ -3,6 +3,7 @@ pub mod DigestLaws
 pub mod HashsumLaws
 pub mod HeaderLaws
 pub mod OpenLaws
+pub mod OpenedPacks
 pub mod PackLaws
 pub mod PackedOpens
 pub mod RuleLaws

@@ -16,6 +16,7 @@ use Rattle.answers.specs.declared.Answer.{Answer}
 use Rattle.chain.specs.Blocks.{blockOf, blockCode, proved, fileUpTo}
 use Rattle.chain.specs.Header.{Header, headerOf, fileLength, blocksStart, fieldRules, streamRules}
 use Rattle.chain.specs.Open.{openRules, openAnswer, opened, signatureField}
+use Rattle.chain.proofs.BlockLaws.{proved-le, fails}
 
 -- ---- by header and blocks alone
 
@@ -124,3 +125,41 @@ opened-same image image′ approved expected output held b =
     (rules-same image image′ approved expected (b .size) (b .front))
     (blocks-same (length approved) (headerOf approved) image image′ b)
     ∙ sym (opened-is image′ approved expected output held)
+
+-- ---- where open gives 0
+
+module _ (code : ℕ) (d : Header) (block : ℕ → List ℕ) (output held : List ℕ) where
+  m : ℕ
+  m = proved d block (d .count)
+
+  -- the code, by the three tests that it goes by
+  codeBy : Bool → Bool → Bool → ℕ
+  codeBy a b c = pick a (pick b (pick c 0 (blockCode d block m)) 1) (pick b code 1)
+
+  code-by : outcome code d block output held .code ≡ codeBy (eqb code 0) (eqb (length held) 40) (eqb m (d .count))
+  unfolding outcome m codeBy
+  code-by = go (eqb code 0) (eqb (length held) 40)
+    where
+      go : (a b : Bool) → pick a
+          (pick b (given (openAnswer d block m) (put output 0 (fileUpTo d block m))) (record { code = 1; answer = held; lent = output }))
+          (pick b (given (refused code) output) (record { code = 1; answer = held; lent = output })) .code
+          ≡ codeBy a b (eqb m (d .count))
+      go true true = refl
+      go true false = refl
+      go false true = refl
+      go false false = refl
+
+  pub outcome-zero : outcome code d block output held .code ≡ 0
+      → (code ≡ 0) × (length held ≡ 40) × (proved d block (d .count) ≡ d .count)
+  unfolding m codeBy
+  outcome-zero e = go (eqb code 0) (eqb (length held) 40) (eqb m (d .count)) refl refl refl (sym code-by ∙ e)
+    where
+      go : (a b c : Bool) → eqb code 0 ≡ a → eqb (length held) 40 ≡ b → eqb m (d .count) ≡ c → codeBy a b c ≡ 0
+          → (code ≡ 0) × (length held ≡ 40) × (m ≡ d .count)
+      go true true true p q r z = (eqb-true code 0 p, eqb-true (length held) 40 q, eqb-true m (d .count) r)
+      go true true false p q r z =
+          let ne : (m ≡ d .count → ⊥) = eqb-false m (d .count) r in
+          absurd (fails d block (d .count) (omega (arith, proved-le d block (d .count))) z)
+      go true false c p q r z = absurd (omega arith)
+      go false true c p q r z = absurd (eqb-false code 0 p z)
+      go false false c p q r z = absurd (omega arith)

@@ -102,7 +102,7 @@ module _ (file room : ℕ) (pos : 0 < room) where
       }
 
   -- no other number is
-  only-fewest : (n : ℕ) → Fewest file room n → (file + room - 1) / room ≡ n
+  pub only-fewest : (n : ℕ) → Fewest file room n → (file + room - 1) / room ≡ n
   only-fewest n f =
       div-eq-of-lt-le room (let h : n * room < file + room = f .fewest in omega arith)
       (let h : file ≤ n * room = f .holds in omega arith)
