@@ -82,3 +82,12 @@ first-broken-has P (r ∷ rs) z h = step (r .broken) (first-broken-has P rs z (h
     step : (b : Bool) → P (firstBroken rs) → P (pick b (r .code) (firstBroken rs))
     step true below = h .0
     step false below = below
+
+-- of rules that all bear the number k, one is broken
+pub first-broken-same : (k : ℕ) (rs : List Rule) → EachCode (λ (n : ℕ). n ≡ k) rs → (AllHold rs → ⊥) → firstBroken rs ≡ k
+first-broken-same k [] e f = absurd (f tt)
+first-broken-same k (r ∷ rs) e f = step (r .broken) refl (first-broken-same k rs (e .1))
+  where
+    step : (b : Bool) → r .broken ≡ b → ((AllHold rs → ⊥) → firstBroken rs ≡ k) → pick b (r .code) (firstBroken rs) ≡ k
+    step true q below = e .0
+    step false q below = below (λ h. f (q, h))

@@ -1,4 +1,6 @@
 pub mod MapLaws
 pub mod RunLaws
 pub mod TableLaws
+pub mod TestLaws
 pub mod Theorems
+pub mod WalkLaws

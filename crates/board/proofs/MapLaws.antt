@@ -1,19 +1,20 @@
 -- Laws of regions in order: what is covered, which ranges are RAM, and where an address's byte is.
-use mathlib.Core.Bool.{Bool, true, false, not, false≢true}
+use mathlib.Core.Bool.{true, not}
 use mathlib.Core.List.{List, [], _∷_}
 use mathlib.Core.Logic.{_⊎_, inl, inr}
 use mathlib.Core.Path.{_≡_, refl, sym, ap, subst, _∙_}
 use Prim.Native.Nat.{ℕ, zero, suc, _+_, _-_, _/_, _%_, _^_, _≤_, _<_, min, max}
 use native.Mathlib.Nat.{add-zero, eq-or-lt-of-le}
 use native.Mathlib.Omega.{arith}
-use lib.Dec.{leb, ltb}
+use lib.Dec.{ltb}
 use lib.ListN.{length}
 use borrow.Author.Tests.{ltb-false, leb-true, eqb-true, eqb-false, le-ltb, le-leb, lt-leb, eq-eqb, ne-eqb, not-false}
-use Rattle.answers.specs.Rules.{pick, firstBroken}
-use Rattle.answers.proofs.RuleLaws.{zero-all-hold, all-hold-zero}
+use Rattle.answers.specs.Rules.{firstBroken}
+use Rattle.answers.proofs.RuleLaws.{AllHold, zero-all-hold, all-hold-zero, first-broken-same}
 use Rattle.board.specs.Records.{records}
 use Rattle.board.specs.Map.{Region, end, regions, ordered, total, mapRules, uncovered, ram, offset}
-use Rattle.board.proofs.RunLaws.{each-more, le-or-lt}
+use Rattle.board.proofs.RunLaws.{each-more}
+use Rattle.board.proofs.TestLaws.{le-or-lt, pick-false}
 
 -- ---- the order of regions
 
@@ -21,10 +22,6 @@ use Rattle.board.proofs.RunLaws.{each-more, le-or-lt}
 abbrev pub Ordered : ℕ → List Region → Type 0
 Ordered low [] = Unit {0}
 Ordered low (r ∷ rs) = (1 ≤ r .size) × (low ≤ r .base) × (end r ≤ 2 ^ 52) × Ordered (end r) rs
-
-pub pick-false : (t x : Bool) → pick t false x ≡ true → (t ≡ false) × (x ≡ true)
-pick-false true x h = absurd (false≢true h)
-pick-false false x h = (refl, h)
 
 pub ordered-means : (low : ℕ) (rs : List Region) → ordered low rs ≡ true → Ordered low rs
 unfolding ordered
@@ -35,11 +32,14 @@ ordered-means low (r ∷ rs) h =
     let d = pick-false (ltb (2 ^ 52) (end r)) (ordered (end r) rs) (b .1) in
     (ltb-false _ _ (a .0), ltb-false _ _ (b .0), ltb-false _ _ (d .0), ordered-means (end r) rs (d .1))
 
+pub ordered-step : (low : ℕ) (r : Region) (rs : List Region) → 1 ≤ r .size → low ≤ r .base → end r ≤ 2 ^ 52 → ordered low (r ∷ rs) ≡ ordered (end r) rs
+unfolding ordered
+ordered-step low r rs a b c = simp (le-ltb (r .size) 1 a, le-ltb (r .base) low b, le-ltb (2 ^ 52) (end r) c)
+
 pub ordered-holds : (low : ℕ) (rs : List Region) → Ordered low rs → ordered low rs ≡ true
 unfolding ordered
 ordered-holds low [] h = refl
-ordered-holds low (r ∷ rs) h =
-    simp (le-ltb (r .size) 1 (h .0), le-ltb (r .base) low (h .1), le-ltb (2 ^ 52) (end r) (h .2)) (ordered-holds (end r) rs (h .3))
+ordered-holds low (r ∷ rs) h = ordered-step low r rs (h .0) (h .1) (h .2) ∙ ordered-holds (end r) rs (h .3)
 
 -- regions in order have no more bytes than there are addresses for them
 pub total-fits : (low : ℕ) (rs : List Region) → Ordered low rs → total rs ≤ 2 ^ 52 - low
@@ -283,9 +283,8 @@ pub record MapTaken (map : List ℕ) (memory : ℕ) : Type 0 where
   pub lent : memory ≡ total (regions map)
 
 module _ (map : List ℕ) (memory : ℕ) where
-  pub map-means : firstBroken (mapRules map memory) ≡ 0 → MapTaken map memory
-  map-means z =
-      let h = zero-all-hold (mapRules map memory) tt z in
+  all-means : AllHold (mapRules map memory) → MapTaken map memory
+  all-means h =
       let nonzero = eqb-false (length map / 16) 0 (h .1 .0) in
       record {
         whole = eqb-true _ _ (not-false _ (h .0));
@@ -295,6 +294,13 @@ module _ (map : List ℕ) (memory : ℕ) where
         small = ltb-false _ _ (h .1 .1 .1 .1 .0);
         lent = eqb-true _ _ (not-false _ (h .1 .1 .1 .1 .1 .0));
       }
+
+  pub map-means : firstBroken (mapRules map memory) ≡ 0 → MapTaken map memory
+  map-means z = all-means (zero-all-hold (mapRules map memory) tt z)
+
+  pub map-refused : (MapTaken map memory → ⊥) → 2 ≡ firstBroken (mapRules map memory)
+  map-refused f =
+      sym (first-broken-same 2 (mapRules map memory) (refl, (refl, (refl, (refl, (refl, (refl, tt)))))) (λ h. f (all-means h)))
 
   pub map-holds : MapTaken map memory → firstBroken (mapRules map memory) ≡ 0
   map-holds t =

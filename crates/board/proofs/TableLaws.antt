@@ -1,5 +1,5 @@
 -- Laws of the CPUID table: its order, and what a lookup finds.
-use mathlib.Core.Bool.{Bool, true, false, not, false≢true}
+use mathlib.Core.Bool.{Bool, true, false, not}
 use mathlib.Core.List.{List, [], _∷_}
 use mathlib.Core.Logic.{_⊎_, inl, inr}
 use mathlib.Core.Path.{_≡_, refl, sym, ap, subst, _∙_}
@@ -10,12 +10,13 @@ use lib.Dec.{eqb, ltb}
 use lib.ListN.{length}
 use borrow.Author.Tests.{ltb-true, ltb-false, eqb-true, lt-ltb, le-ltb, eq-eqb, ne-eqb, not-false}
 use Rattle.answers.specs.Rules.{pick, firstBroken}
-use Rattle.answers.proofs.RuleLaws.{zero-all-hold, all-hold-zero}
+use Rattle.answers.proofs.RuleLaws.{AllHold, zero-all-hold, all-hold-zero, first-broken-same}
 use Rattle.board.specs.Cpuid.{Leaf, leaf, before, ascending, tableRules, register, lookup}
 use Rattle.board.specs.Records.{records}
 use Rattle.board.specs.declared.Found.{Found}
 use Rattle.board.specs.declared.Found.the-variants.{Word, Nothing}
-use Rattle.board.proofs.RunLaws.{each-more, le-or-lt}
+use Rattle.board.proofs.RunLaws.{each-more}
+use Rattle.board.proofs.TestLaws.{le-or-lt, pick-true}
 
 -- ---- the order of records
 
@@ -40,10 +41,6 @@ before-trans p q r (inl h) (inl k) = inl (omega arith)
 before-trans p q r (inl h) (inr k) = inl (omega arith)
 before-trans p q r (inr h) (inl k) = inl (omega arith)
 before-trans p q r (inr h) (inr k) = inr (omega arith)
-
-pick-true : (t x : Bool) → pick t x false ≡ true → (t ≡ true) × (x ≡ true)
-pick-true true x h = (refl, h)
-pick-true false x h = absurd (false≢true h)
 
 -- l has both inputs
 abbrev pub Has : Leaf → ℕ → ℕ → Type 0
@@ -163,14 +160,19 @@ pub record TableTaken (table : List ℕ) : Type 0 where
   pub order : Ascends (leaf table) (length table / 24)
 
 module _ (table : List ℕ) where
-  pub table-means : firstBroken (tableRules table) ≡ 0 → TableTaken table
-  table-means z =
-      let h = zero-all-hold (tableRules table) tt z in
+  all-means : AllHold (tableRules table) → TableTaken table
+  all-means h =
       record {
         whole = eqb-true _ _ (not-false _ (h .0));
         few = ltb-false _ _ (h .1 .0);
         order = ascends-means (leaf table) (length table / 24) (not-false _ (h .1 .1 .0));
       }
+
+  pub table-means : firstBroken (tableRules table) ≡ 0 → TableTaken table
+  table-means z = all-means (zero-all-hold (tableRules table) tt z)
+
+  pub table-refused : (TableTaken table → ⊥) → 3 ≡ firstBroken (tableRules table)
+  table-refused f = sym (first-broken-same 3 (tableRules table) (refl, (refl, (refl, tt))) (λ h. f (all-means h)))
 
   pub table-holds : TableTaken table → firstBroken (tableRules table) ≡ 0
   table-holds t =

@@ -1,0 +1,49 @@
+-- What is left to test is the order of the regions from number i on, above the end of those before.
+use mathlib.Core.Bool.{false}
+use mathlib.Core.Path.{_≡_, sym, ap, _∙_}
+use Prim.Native.Nat.{_+_, _-_, _^_, _≤_}
+use native.Mathlib.Omega.{arith}
+use Rattle.board.specs.Map.{region, end, regions, ordered}
+use Rattle.board.proofs.WalkLaws.{left, left-all, left-none, ordered-on, ordered-stops}
+use Rattle.board.proofs.map.in_order.Statement.{statement}
+use Rattle.board.proofs.map.in_order.Tie as tie
+
+abbrev Inv-loop : tie.InvT-loop
+Inv-loop map n low₀ i₀ low i = (i ≤ n) × (ordered 0 (regions map) ≡ ordered low (left map i))
+
+abbrev μ-loop : tie.MeasureT-loop
+μ-loop map n low₀ i₀ low i = n - i
+
+-- region i breaks a rule
+stops : (c : tie.After-size Inv-loop μ-loop)
+    → (let r = region (c .before .before .before .before .before .args .map .now) (c .before .before .before .loop .i) in
+    1 ≤ r .size → c .before .before .before .loop .low ≤ r .base → end r ≤ 2 ^ 52 → ⊥)
+    → false ≡ ordered 0 (regions (c .before .before .before .before .before .args .map .now))
+stops c f =
+    let l = c .before .before .before .loop in
+    sym (l .inv .1 ∙ ordered-stops (c .before .before .before .before .before .args .map .now) (l .i) (omega arith) (l .low) f)
+
+loop-again : tie.Need-loop-again Inv-loop μ-loop
+loop-again c =
+    let d = c .before .before .before .before in
+    let l = d .before .before .before .loop in
+    let map = d .before .before .before .before .before .args .map .now in (
+      omega arith,
+      l .inv .1
+          ∙ ordered-on map (l .i) (omega arith) (l .low) (d .before .base .result + d .size .result) (omega arith) (omega arith) (omega arith)
+          (omega arith),
+    )
+
+returns-5 : tie.Need-returns-5 Inv-loop μ-loop
+unfolding ordered
+returns-5 c =
+    let l = c .before .loop in
+    sym (l .inv .1 ∙ ap (ordered (l .low)) (left-none (c .before .before .before .args .map .now) (l .i) (omega arith)))
+
+pub in-order-spec : {M : Type 1} → statement M
+in-order-spec =
+    tie.close
+    (tie.spec Inv-loop μ-loop (λ c. (omega arith, ap (ordered 0) (left-all (c .before .args .map .now)))) (λ c κs. omega arith) (λ c κs. omega arith)
+    (λ c. stops (c .before) (λ p q r. omega arith)) (λ c. stops (c .before .before) (λ p q r. omega arith))
+    (λ c. stops (c .before .before .before) (λ p q r. omega arith)) (λ c. stops (c .before .before .before .before) (λ p q r. omega arith))
+    (λ c. omega arith) (λ c. omega arith) (λ c. omega arith) loop-again returns-5)
