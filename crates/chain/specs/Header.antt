@@ -58,6 +58,10 @@ dataLength d = d .blockSize - d .hashsumLength
 abbrev pub fileLength : Header → ℕ
 fileLength d = d .count * dataLength d - d .padding
 
+-- 11: block size at most the hashsum length or over 1,048,576
+abbrev pub blockSizeRules : ℕ → ℕ → List Rule
+blockSizeRules size sum = rule 11 (leb size sum) ∷ rule 11 (ltb 1048576 size) ∷ []
+
 -- 5 to 11, of an approved header of `size` bytes
 abbrev pub fieldRules : Header → ℕ → ℕ → List Rule
 fieldRules d size expected =
@@ -69,9 +73,8 @@ fieldRules d size expected =
     ∷ rule 9 (not (eqb (d .scheme) 1))
     ∷ rule 10 (not (eqb (d .signature) expected))
     ∷ rule 11 (eqb (d .count) 0)
-    ∷ rule 11 (leb (d .blockSize) (d .hashsumLength))
-    ∷ rule 11 (ltb 1048576 (d .blockSize))
-    ∷ rule 11 (leb (dataLength d) (d .padding))
+    ∷ blockSizeRules (d .blockSize) (d .hashsumLength)
+    ++ rule 11 (leb (dataLength d) (d .padding))
     ∷ []
 
 -- where the first block begins: the image is header, signature field, blocks

@@ -7,7 +7,7 @@ use lib.ListN.{length, replicate}
 use Rattle.octets.specs.Parts.{part}
 use Rattle.answers.specs.Rules.{pick, Rule, rule, firstBroken, signatureRules, sizeRules}
 use Rattle.chain.specs.Hashsum.{hashsum, sumLength, idRules}
-use Rattle.chain.specs.Header.{Header, headerBytes}
+use Rattle.chain.specs.Header.{Header, headerBytes, blockSizeRules}
 
 -- what is packed, and how: the file, the four hash IDs, block size and signature length
 pub record Order : Type 0 where
@@ -34,9 +34,8 @@ imageLength p = 36 + sumLength (p .ids) + p .signature + blocks p * p .blockSize
 abbrev pub packRules : Order → ℕ → List Rule
 packRules p output =
     idRules (p .ids)
-    ++ rule 11 (leb (p .blockSize) (sumLength (p .ids)))
-    ∷ rule 11 (ltb 1048576 (p .blockSize))
-    ∷ rule 28 (eqb (length (p .file)) 0)
+    ++ blockSizeRules (p .blockSize) (sumLength (p .ids))
+    ++ rule 28 (eqb (length (p .file)) 0)
     ∷ signatureRules (p .signature)
     ++ sizeRules (imageLength p)
     ++ rule 29 (not (eqb output (imageLength p)))
