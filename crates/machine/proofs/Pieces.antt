@@ -10,8 +10,9 @@ use lib.ListN.{length, length-append}
 use lib.Seq.{append-snoc, take-append-le}
 use Rattle.octets.specs.Numbers.{little}
 use Rattle.answers.specs.Rules.{pick}
-use Rattle.machine.specs.Commands.{command, commandOf, judgedBytes}
-use Rattle.machine.specs.Machine.{Job, State, Store, Turn, react, step, run, trace, still, kept, turnedTo, withStored, begins, finished, gathered, magicRead, headerRead, parametersRead, storesFrom}
+use Rattle.machine.specs.Code.{keptAll, wanted, reads}
+use Rattle.machine.specs.Commands.{command, commandOf}
+use Rattle.machine.specs.Machine.{Job, State, Store, Turn, react, step, run, trace, still, kept, turnedTo, withStored, begins, finished, gathered, storesFrom}
 use Rattle.machine.specs.declared.Tally.{Tally}
 use Rattle.machine.specs.declared.Phase.{Phase}
 use Rattle.machine.specs.declared.Phase.the-variants.{Magic, Header, Parameters, Storing, Skipping, Stopped}
@@ -35,17 +36,6 @@ over-one job s x =
 
 -- ---- bytes that are kept until enough of them are there
 
--- the bytes are kept behind those held
-abbrev pub keptAll : List ℕ → State → State
-keptAll xs s =
-    record {
-      phase = s .phase;
-      held = s .held ++ xs;
-      start = s .start;
-      next = s .next + length xs;
-      tally = s .tally;
-    }
-
 kept-one : (x : ℕ) (s : State) → kept x s ≡ keptAll (x ∷ []) s
 kept-one x s =
     let e : suc (s .next) ≡ s .next + 1 = omega arith in
@@ -61,24 +51,6 @@ kept-more x xs s =
       next = e i;
       tally = s .tally;
     }
-
--- how many bytes a phase waits for, where h is held
-abbrev pub wanted : Phase → List ℕ → ℕ
-wanted Magic h = 8
-wanted Header h = 16
-wanted Parameters h = 16 + judgedBytes (commandOf h)
-wanted (Storing a left) h = 0
-wanted (Skipping left) h = 0
-wanted (Stopped code place) h = 0
-
--- what they then say
-abbrev pub reads : Phase → Job → State → Turn
-reads Magic job s = still (magicRead job s)
-reads Header job s = headerRead job s
-reads Parameters job s = parametersRead job (commandOf (s .held)) s
-reads (Storing a left) job s = still s
-reads (Skipping left) job s = still s
-reads (Stopped code place) job s = still s
 
 -- the phases that keep their bytes
 abbrev pub Keeps : Phase → Type 0
