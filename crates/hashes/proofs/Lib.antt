@@ -1,1 +1,6 @@
+pub mod Algorithms
+pub mod Blocks
 pub mod Identities
+pub mod Rounds
+pub mod Storing
+pub mod Theorems

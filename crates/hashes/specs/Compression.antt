@@ -85,11 +85,11 @@ afterBlocks P H s (suc i) = compressed P (afterBlocks P H s i) (block P s i)
 unfoldable pub hashed : Width → Eight → List ℕ → Eight
 hashed P H m = afterBlocks P H (padded P m) (length (padded P m) / blockBytes P)
 
--- H_0 ‖ H_1 ‖ .. as bytes, the highest of each word first: the first n words
-unfoldable pub joined : Width → Eight → ℕ → List ℕ
-joined P H zero = []
-joined P H (suc n) = joined P H n ++ bigBytes (wordBytes P) (getD (inOrder H) n 0)
+-- the first n of the words ws as bytes, the highest byte of each word first (3.1): H_0 ‖ H_1 ‖ ..
+unfoldable pub joined : Width → List ℕ → ℕ → List ℕ
+joined P ws zero = []
+joined P ws (suc n) = joined P ws n ++ bigBytes (wordBytes P) (getD ws n 0)
 
 -- 6.2.2, 6.4.2, 6.5: the digest, the first bytes of the last hash value
 unfoldable pub sha2 : Hash → List ℕ → List ℕ
-sha2 X m = take (X .bytes) (joined (X .width) (hashed (X .width) (X .initial) m) 8)
+sha2 X m = take (X .bytes) (joined (X .width) (inOrder (hashed (X .width) (X .initial) m)) 8)

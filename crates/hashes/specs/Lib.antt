@@ -1,3 +1,4 @@
+pub mod Code
 pub mod Compression
 pub mod Digests
 pub mod Padding
