@@ -1,4 +1,6 @@
 pub mod BlockLaws
+pub mod CodeCases
+pub mod CodeLaws
 pub mod DigestLaws
 pub mod HashsumLaws
 pub mod HeaderLaws
@@ -7,3 +9,5 @@ pub mod OpenedPacks
 pub mod PackLaws
 pub mod PackedOpens
 pub mod RuleLaws
+pub mod StreamLaws
+pub mod Theorems

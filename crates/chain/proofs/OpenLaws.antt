@@ -126,40 +126,53 @@ opened-same image image′ approved expected output held b =
     (blocks-same (length approved) (headerOf approved) image image′ b)
     ∙ sym (opened-is image′ approved expected output held)
 
--- ---- where open gives 0
+-- ---- the three ways that open goes
+
+pub data Way (code : ℕ) (d : Header) (block : ℕ → List ℕ) (output held : List ℕ) (o : Outcome) : Type 0 where
+  -- the record isn't 40 bytes long
+  unwritten : (length held ≡ 40 → ⊥) → o ≡ record { code = 1; answer = held; lent = output } → Way code d block output held o
+  -- refused before any block
+  refusing : length held ≡ 40 → (code ≡ 0 → ⊥) → o ≡ given (refused code) output → Way code d block output held o
+  -- the blocks are looked at
+  proving : length held ≡ 40 → code ≡ 0
+      → o ≡ given (openAnswer d block (proved d block (d .count))) (put output 0 (fileUpTo d block (proved d block (d .count))))
+      → Way code d block output held o
 
 module _ (code : ℕ) (d : Header) (block : ℕ → List ℕ) (output held : List ℕ) where
-  m : ℕ
+  abbrev m : ℕ
   m = proved d block (d .count)
 
-  -- the code, by the three tests that it goes by
-  codeBy : Bool → Bool → Bool → ℕ
-  codeBy a b c = pick a (pick b (pick c 0 (blockCode d block m)) 1) (pick b code 1)
-
-  code-by : outcome code d block output held .code ≡ codeBy (eqb code 0) (eqb (length held) 40) (eqb m (d .count))
-  unfolding outcome m codeBy
-  code-by = go (eqb code 0) (eqb (length held) 40)
+  pub way : Way code d block output held (outcome code d block output held)
+  unfolding outcome
+  way = go (eqb code 0) (eqb (length held) 40) refl refl
     where
-      go : (a b : Bool) → pick a
+      go : (a b : Bool) → eqb code 0 ≡ a → eqb (length held) 40 ≡ b
+          → Way code d block output held
+          (pick a
           (pick b (given (openAnswer d block m) (put output 0 (fileUpTo d block m))) (record { code = 1; answer = held; lent = output }))
-          (pick b (given (refused code) output) (record { code = 1; answer = held; lent = output })) .code
-          ≡ codeBy a b (eqb m (d .count))
-      go true true = refl
-      go true false = refl
-      go false true = refl
-      go false false = refl
+          (pick b (given (refused code) output) (record { code = 1; answer = held; lent = output })))
+      go true true p q = proving (eqb-true (length held) 40 q) (eqb-true code 0 p) refl
+      go false true p q = refusing (eqb-true (length held) 40 q) (eqb-false code 0 p) refl
+      go true false p q = unwritten (eqb-false (length held) 40 q) refl
+      go false false p q = unwritten (eqb-false (length held) 40 q) refl
 
+  -- the code where blocks are looked at: 0 where all are proved, else the first bad one's
+  all-proved : pick (eqb m (d .count)) 0 (blockCode d block m) ≡ 0 → m ≡ d .count
+  all-proved e = go (eqb m (d .count)) refl e
+    where
+      go : (b : Bool) → eqb m (d .count) ≡ b → pick b 0 (blockCode d block m) ≡ 0 → m ≡ d .count
+      go true p z = eqb-true m (d .count) p
+      go false p z =
+          let ne : (m ≡ d .count → ⊥) = eqb-false m (d .count) p in
+          absurd (fails d block (d .count) (omega (arith, proved-le d block (d .count))) z)
+
+  -- 0 only where nothing is broken and all blocks are proved
   pub outcome-zero : outcome code d block output held .code ≡ 0
       → (code ≡ 0) × (length held ≡ 40) × (proved d block (d .count) ≡ d .count)
-  unfolding m codeBy
-  outcome-zero e = go (eqb code 0) (eqb (length held) 40) (eqb m (d .count)) refl refl refl (sym code-by ∙ e)
+  outcome-zero e = go way
     where
-      go : (a b c : Bool) → eqb code 0 ≡ a → eqb (length held) 40 ≡ b → eqb m (d .count) ≡ c → codeBy a b c ≡ 0
-          → (code ≡ 0) × (length held ≡ 40) × (m ≡ d .count)
-      go true true true p q r z = (eqb-true code 0 p, eqb-true (length held) 40 q, eqb-true m (d .count) r)
-      go true true false p q r z =
-          let ne : (m ≡ d .count → ⊥) = eqb-false m (d .count) r in
-          absurd (fails d block (d .count) (omega (arith, proved-le d block (d .count))) z)
-      go true false c p q r z = absurd (omega arith)
-      go false true c p q r z = absurd (eqb-false code 0 p z)
-      go false false c p q r z = absurd (omega arith)
+      go : Way code d block output held (outcome code d block output held)
+          → (code ≡ 0) × (length held ≡ 40) × (proved d block (d .count) ≡ d .count)
+      go (unwritten h q) = absurd (let z : _≡_ {A = ℕ} 1 0 = ap (λ (o : Outcome). o .code) (sym q) ∙ e in omega arith)
+      go (refusing h c q) = absurd (c (ap (λ (o : Outcome). o .code) (sym q) ∙ e))
+      go (proving h c q) = (c, h, all-proved (ap (λ (o : Outcome). o .code) (sym q) ∙ e))

@@ -5,21 +5,26 @@ use mathlib.Core.List.{List, [], _∷_, _++_, append-assoc}
 use Prim.Native.Nat.{ℕ, zero, suc, _+_, _-_, _*_, _/_, _^_, min, _≤_, _<_}
 use native.Mathlib.Nat.{zero-mul, suc-mul, le-of-lt, le-of-eq, mul-le-mul-right}
 use native.Mathlib.Omega.{arith}
+use borrow.Author.Tests.{eqb-true, not-false}
 use lib.Dec.{eqb}
 use lib.ListN.{length, take, drop, replicate, length-append, length-replicate, length-take, length-drop, take-append-drop, drop-of-length-le}
 use lib.Seq.{take-at, drop-drop, take-take, take-append-le, drop-append-le}
 use Rattle.octets.specs.Parts.{part, put, allZero, Octets}
 use Rattle.octets.proofs.PartLaws.{length-part, length-put, drop-behind-put, octets-take}
 use Rattle.octets.proofs.TestLaws.{allZero-eq}
-use Rattle.answers.specs.Rules.{pick}
+use Rattle.answers.specs.Answers.{Outcome}
+use Rattle.answers.specs.Rules.{pick, Rule, rule, firstBroken}
+use Rattle.answers.proofs.RuleLaws.{zero-all-hold}
 use Rattle.chain.specs.Blocks.{hashField, paddingOf, expected, blockCode, proved, fileUpTo}
 use Rattle.chain.specs.Hashsum.{hashsum, sumLength}
-use Rattle.chain.specs.Header.{Header, headerOf, headerBytes, dataLength, fileLength, blocksStart}
+use Rattle.chain.specs.Header.{Header, headerOf, headerBytes, dataLength, fileLength, streamRules}
+use Rattle.chain.specs.Open.{openRules, opened}
 use Rattle.chain.specs.Pack.{Order, room, blocks, padding, imageLength, packRules, chunk, link, blocksFrom, packedHeader, image, packed, Packed}
 use Rattle.chain.proofs.BlockLaws.{Proper, proper, pass-all, dataUpTo, length-data, data-part, file-of-data, length-file}
-use Rattle.chain.proofs.HeaderLaws.{Sound, Allowed, Passed, written-read}
-use Rattle.chain.proofs.OpenLaws.{blocksBy}
+use Rattle.chain.proofs.HeaderLaws.{Sound, Allowed, Passed, stream-passed, written-read}
+use Rattle.chain.proofs.OpenLaws.{blocksBy, outcome, opened-is, outcome-zero, outcome-done}
 use Rattle.chain.proofs.PackLaws.{Packable, packable-passes, Fewest, only-fewest, paddedFile, link-more, link-last, blocks-more, blocks-none}
+use Rattle.chain.proofs.RuleLaws.{both-hold}
 
 -- what is packed again: the file of some blocks, with their header's IDs and sizes
 abbrev pub orderOf : Header → (ℕ → List ℕ) → Order
@@ -251,3 +256,59 @@ module _ (image₀ approved : List ℕ) (signature : ℕ) (bytes : Octets image�
               (subst (Allowed signature) (sym repacked-length) a);
         }) (e ∙ sym repacked-length))
         ∙ ap (λ (t : List ℕ). record { code = 0; output = t }) repacked
+
+-- ---- what open gave, packed again
+
+module _ (image₀ approved : List ℕ) (signature : ℕ) (output held : List ℕ) (bytes : Octets image₀)
+    (done : opened image₀ approved signature output held .code ≡ 0) where
+  abbrev h : Header
+  h = headerOf approved
+
+  abbrev blockAt : ℕ → List ℕ
+  blockAt = blocksBy image₀ (length approved) h
+
+  abbrev code : ℕ
+  code = firstBroken (openRules image₀ approved signature (length output))
+
+  way-done : (code ≡ 0) × (length held ≡ 40) × (proved h blockAt (h .count) ≡ h .count)
+  way-done =
+      outcome-zero code h blockAt output held
+      (sym (ap (λ (o : Outcome). o .code) (opened-is image₀ approved signature output held)) ∙ done)
+
+  abbrev lengthRule : List Rule
+  lengthRule = rule 29 (not (eqb (length output) (fileLength h))) ∷ []
+
+  parts : (firstBroken (streamRules image₀ approved signature) ≡ 0) × (firstBroken lengthRule ≡ 0)
+  parts = both-hold (streamRules image₀ approved signature) lengthRule tt (way-done .0)
+
+  sound : Allowed signature (length image₀) × Passed image₀ approved signature
+  sound = stream-passed image₀ approved signature (parts .0)
+
+  output-whole : length output ≡ length (fileUpTo h blockAt (h .count))
+  output-whole =
+      eqb-true (length output) (fileLength h) (not-false _ (zero-all-hold lengthRule tt (parts .1) .0))
+      ∙ sym
+      (file-length h (length approved) signature (sound .1 .sound) blockAt
+      (sized image₀ approved signature bytes (sound .0) (sound .1)) (way-done .2))
+
+  opened-file : opened image₀ approved signature output held .lent ≡ fileUpTo h blockAt (h .count)
+  opened-file =
+      ap (λ (o : Outcome). o .lent)
+      (opened-is image₀ approved signature output held
+      ∙ ap (λ (c : ℕ). outcome c h blockAt output held) (way-done .0)
+      ∙ outcome-done h blockAt output held (way-done .1) (way-done .2) output-whole)
+
+  pub packed-opened : (output′ : List ℕ) → length output′ ≡ length image₀
+      → packed
+      (record {
+        file = opened image₀ approved signature output held .lent;
+        ids = h .ids;
+        blockSize = h .blockSize;
+        signature = signature;
+      })
+      output′
+      ≡ record { code = 0; output = cleared image₀ approved }
+  packed-opened output′ l =
+      ap₂ (λ (f : List ℕ) (s : ℕ). packed (record { file = f; ids = h .ids; blockSize = h .blockSize; signature = s }) output′)
+      opened-file (sym (sound .1 .sound .signature))
+      ∙ packed-again image₀ approved signature bytes (sound .0) (sound .1) (way-done .2) output′ l

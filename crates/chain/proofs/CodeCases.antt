@@ -1,0 +1,198 @@
+-- For each code that open and pack can give, an input that gets it: small images with SHA2-256, computed.
+use mathlib.Core.Path.{_≡_, refl, ap, ap₂, _∙_}
+use mathlib.Core.Bool.{Bool, true, false}
+use mathlib.Core.List.{List, [], _∷_, _++_, map}
+use Prim.Native.Nat.{ℕ}
+use lib.Dec.{eqb}
+use lib.ListN.{length, take, replicate}
+use Rattle.octets.specs.Numbers.{little, littleBytes}
+use Rattle.octets.specs.Parts.{put, same, allZero}
+use Rattle.answers.specs.Answers.{Outcome, refused}
+use Rattle.answers.specs.Rules.{pick, firstBroken}
+use Rattle.hashes.specs.Compression as compression
+use Rattle.hashes.specs.Digests as digests
+use Rattle.hashes.specs.Padding as padding
+use Rattle.hashes.specs.Tables as tables
+use Rattle.chain.specs.Blocks.{blockCode, blockOf, proved, fileUpTo}
+use Rattle.chain.specs.Hashsum.{hashsum, sumLength, anyUnknown}
+use Rattle.chain.specs.Header.{Header, headerOf, headerBytes, idBytes}
+use Rattle.chain.specs.Open.{openRules, openAnswer, opened}
+use Rattle.chain.specs.Pack.{Order, packRules, packed}
+use Rattle.chain.proofs.OpenLaws.{outcome, opened-is, given}
+
+-- ---- the code, computed so that blocks are looked at only where they must be
+
+pub record OpenCase : Type 0 where
+  pub image : List ℕ
+  pub approved : List ℕ
+  pub signature : ℕ
+  pub output : List ℕ
+  pub held : List ℕ
+
+abbrev pub openCode : OpenCase → ℕ
+openCode x = opened (x .image) (x .approved) (x .signature) (x .output) (x .held) .code
+
+abbrev quickBy : Bool → Bool → ℕ → (Unit {0} → ℕ) → ℕ
+quickBy false b code blocks = 1
+quickBy true false code blocks = code
+quickBy true true code blocks = blocks tt
+
+abbrev quickCode : OpenCase → ℕ
+quickCode x =
+    let code = firstBroken (openRules (x .image) (x .approved) (x .signature) (length (x .output))) in
+    let d = headerOf (x .approved) in
+    let block = blockOf (x .image) (x .approved) in
+    quickBy (eqb (length (x .held)) 40) (eqb code 0) code
+    (λ u. pick (eqb (proved d block (d .count)) (d .count)) 0 (blockCode d block (proved d block (d .count))))
+
+module _ (code : ℕ) (d : Header) (block : ℕ → List ℕ) (output held : List ℕ) where
+  abbrev m : ℕ
+  m = proved d block (d .count)
+
+  quick-outcome : outcome code d block output held .code
+      ≡ quickBy (eqb (length held) 40) (eqb code 0) code (λ u. pick (eqb m (d .count)) 0 (blockCode d block m))
+  unfolding outcome
+  quick-outcome = go (eqb code 0) (eqb (length held) 40)
+    where
+      go : (a b : Bool) → pick a
+          (pick b (given (openAnswer d block m) (put output 0 (fileUpTo d block m))) (record { code = 1; answer = held; lent = output }))
+          (pick b (given (refused code) output) (record { code = 1; answer = held; lent = output })) .code
+          ≡ quickBy b a code (λ u. pick (eqb m (d .count)) 0 (blockCode d block m))
+      go true true = refl
+      go true false = refl
+      go false true = refl
+      go false false = refl
+
+quick : (x : OpenCase) → openCode x ≡ quickCode x
+quick x =
+    ap (λ (o : Outcome). o .code) (opened-is (x .image) (x .approved) (x .signature) (x .output) (x .held))
+    ∙ quick-outcome (firstBroken (openRules (x .image) (x .approved) (x .signature) (length (x .output))))
+    (headerOf (x .approved)) (blockOf (x .image) (x .approved)) (x .output) (x .held)
+
+all-quick : (xs : List OpenCase) → map openCode xs ≡ map quickCode xs
+all-quick [] = refl
+all-quick (x ∷ xs) = ap₂ (λ (c : ℕ) (cs : List ℕ). c ∷ cs) (quick x) (all-quick xs)
+
+-- ---- images of one block of 34 bytes, with a signature field of one
+
+abbrev sealed : ℕ → List ℕ → Header
+sealed padded root =
+    record {
+      magic = 0xe6019598;
+      count = 1;
+      blockSize = 34;
+      signature = 1;
+      headerSize = 68;
+      hashsumLength = 32;
+      ids = 2 ∷ 0 ∷ 0 ∷ 0 ∷ [];
+      scheme = 1;
+      padding = padded;
+      root = root;
+    }
+
+-- a block with padding and hash field zero, and its hashsum
+abbrev good : List ℕ
+good = replicate 33 0 ++ (7 ∷ [])
+
+abbrev goodRoot : List ℕ
+goodRoot =
+    146 ∷ 109 ∷ 2 ∷ 218 ∷ 59 ∷ 4 ∷ 150 ∷ 106 ∷ 171 ∷ 217 ∷ 182 ∷ 226 ∷ 107 ∷ 176 ∷ 64 ∷ 115
+    ∷ 86 ∷ 216 ∷ 54 ∷ 49 ∷ 45 ∷ 146 ∷ 77 ∷ 188 ∷ 126 ∷ 21 ∷ 48 ∷ 101 ∷ 22 ∷ 123 ∷ 200 ∷ 173
+    ∷ []
+
+-- one with neither zero, and its hashsum
+abbrev bad : List ℕ
+bad = (1 ∷ replicate 31 0) ++ (1 ∷ 7 ∷ [])
+
+abbrev badRoot : List ℕ
+badRoot =
+    84 ∷ 49 ∷ 85 ∷ 219 ∷ 147 ∷ 46 ∷ 99 ∷ 157 ∷ 39 ∷ 12 ∷ 205 ∷ 198 ∷ 193 ∷ 126 ∷ 228 ∷ 78
+    ∷ 51 ∷ 124 ∷ 114 ∷ 187 ∷ 199 ∷ 17 ∷ 75 ∷ 31 ∷ 84 ∷ 70 ∷ 204 ∷ 86 ∷ 195 ∷ 49 ∷ 64 ∷ 164
+    ∷ []
+
+-- a case: an image of which so many bytes are approved, an output of so many, and a record of 40
+abbrev opening : List ℕ → ℕ → ℕ → ℕ → OpenCase
+opening image header signature output =
+    record {
+      image = image;
+      approved = take header image;
+      signature = signature;
+      output = replicate output 0;
+      held = replicate 40 0;
+    }
+
+abbrev imageOf : Header → List ℕ → List ℕ
+imageOf d block = headerBytes d ++ (0 ∷ []) ++ block
+
+abbrev sound : List ℕ
+sound = imageOf (sealed 1 goodRoot) good
+
+pub openCases : List OpenCase
+openCases =
+    opening sound 68 1 1
+    ∷ opening sound 68 0 1
+    ∷ opening sound 35 1 1
+    ∷ opening (put sound 0 (0 ∷ [])) 68 1 1
+    ∷ opening (put sound 20 (1 ∷ [])) 68 1 1
+    ∷ opening (put sound 18 (33 ∷ [])) 68 1 1
+    ∷ opening (put sound 16 (69 ∷ [])) 68 1 1
+    ∷ opening (put sound 28 (2 ∷ [])) 68 1 1
+    ∷ opening sound 68 2 1
+    ∷ opening (put sound 4 (0 ∷ [])) 68 1 1
+    ∷ opening (sound ++ (0 ∷ [])) 68 1 1
+    ∷ opening (imageOf (sealed 1 goodRoot) bad) 68 1 1
+    ∷ opening (imageOf (sealed 1 badRoot) bad) 68 1 1
+    ∷ opening (imageOf (sealed 0 badRoot) bad) 68 1 2
+    ∷ opening sound 68 1 2
+    ∷ []
+
+quick-cases : map quickCode openCases ≡ 0 ∷ 1 ∷ 4 ∷ 5 ∷ 6 ∷ 7 ∷ 8 ∷ 9 ∷ 10 ∷ 11 ∷ 12 ∷ 13 ∷ 14 ∷ 15 ∷ 29 ∷ []
+unfolding openCases headerBytes idBytes littleBytes little same allZero proved hashsum sumLength anyUnknown digests.digest digests.digestLength digests.algorithms digests.algorithmOf compression.sha2 compression.joined compression.hashed compression.afterBlocks compression.compressed compression.afterRounds compression.round compression.summed compression.scheduled compression.withNext padding.padded padding.wordsAt tables.K256 tables.initial256
+quick-cases = refl
+
+pub open-cases : map openCode openCases ≡ 0 ∷ 1 ∷ 4 ∷ 5 ∷ 6 ∷ 7 ∷ 8 ∷ 9 ∷ 10 ∷ 11 ∷ 12 ∷ 13 ∷ 14 ∷ 15 ∷ 29 ∷ []
+open-cases = all-quick openCases ∙ quick-cases
+
+-- ---- pack
+
+pub record PackCase : Type 0 where
+  pub order : Order
+  pub output : List ℕ
+
+abbrev pub packCode : PackCase → ℕ
+packCode x = packed (x .order) (x .output) .code
+
+abbrev ruled : PackCase → ℕ
+ruled x = firstBroken (packRules (x .order) (length (x .output)))
+
+by-rules : (x : PackCase) → packCode x ≡ ruled x
+unfolding packed
+by-rules x = refl
+
+all-by-rules : (xs : List PackCase) → map packCode xs ≡ map ruled xs
+all-by-rules [] = refl
+all-by-rules (x ∷ xs) = ap₂ (λ (c : ℕ) (cs : List ℕ). c ∷ cs) (by-rules x) (all-by-rules xs)
+
+abbrev packing : List ℕ → ℕ → ℕ → ℕ → ℕ → PackCase
+packing file id blockSize signature output =
+    record {
+      order = record { file = file; ids = id ∷ 0 ∷ 0 ∷ 0 ∷ []; blockSize = blockSize; signature = signature };
+      output = replicate output 0;
+    }
+
+pub packCases : List PackCase
+packCases =
+    packing (7 ∷ []) 2 34 1 103
+    ∷ packing (7 ∷ []) 2 34 0 102
+    ∷ packing (7 ∷ []) 1 34 1 103
+    ∷ packing (7 ∷ []) 2 32 1 101
+    ∷ packing [] 2 34 1 69
+    ∷ packing (7 ∷ []) 2 34 1 104
+    ∷ []
+
+ruled-cases : map ruled packCases ≡ 0 ∷ 1 ∷ 6 ∷ 11 ∷ 28 ∷ 29 ∷ []
+unfolding packCases sumLength anyUnknown digests.digestLength digests.algorithms digests.algorithmOf
+ruled-cases = refl
+
+pub pack-cases : map packCode packCases ≡ 0 ∷ 1 ∷ 6 ∷ 11 ∷ 28 ∷ 29 ∷ []
+pack-cases = all-by-rules packCases ∙ ruled-cases

@@ -1,0 +1,118 @@
+-- Which codes open and pack give, and what each leaves in the output.
+use mathlib.Core.Path.{_≡_, refl, sym, ap, subst, _∙_}
+use mathlib.Core.Bool.{Bool, true, false, not, _&&_, _||_}
+use mathlib.Core.List.{List, [], _∷_, _++_}
+use Prim.Native.Nat.{ℕ}
+use borrow.Author.Tests.{ne-eqb}
+use lib.Dec.{T, T-not, eqb}
+use lib.ListN.{length, drop}
+use Rattle.octets.specs.Parts.{put}
+use Rattle.answers.specs.Answers.{Outcome, refused}
+use Rattle.answers.specs.Rules.{pick, Rule, firstBroken}
+use Rattle.chain.specs.Blocks.{blockOf, blockRules, blockCode, expected, proved, fileUpTo}
+use Rattle.chain.specs.Header.{Header, headerOf}
+use Rattle.chain.specs.Open.{openRules, openAnswer, opened}
+use Rattle.chain.specs.Pack.{Order, packRules, image, packed}
+use Rattle.chain.proofs.OpenLaws.{Way, unwritten, refusing, proving, way, outcome, opened-is, given, blocksBy}
+
+-- whether a code is one of some
+abbrev pub among : List ℕ → ℕ → Bool
+among [] c = false
+among (x ∷ xs) c = eqb c x || among xs c
+
+-- whether the codes of some rules all pass a test
+abbrev pub codesPass : (ℕ → Bool) → List Rule → Bool
+codesPass f [] = true
+codesPass f (r ∷ rs) = f (r .code) && codesPass f rs
+
+and-parts : (a b : Bool) → T (a && b) → T a × T b
+and-parts true b t = (tt, t)
+and-parts false b t = absurd t
+
+-- then so does the code that is given
+pub code-passes : (f : ℕ → Bool) (rs : List Rule) → T (f 0) → T (codesPass f rs) → T (f (firstBroken rs))
+code-passes f [] z t = z
+code-passes f (r ∷ rs) z t =
+    go (r .broken) (and-parts (f (r .code)) (codesPass f rs) t .0)
+    (code-passes f rs z (and-parts (f (r .code)) (codesPass f rs) t .1))
+  where
+    go : (b : Bool) → T (f (r .code)) → T (f (firstBroken rs)) → T (f (pick b (r .code) (firstBroken rs)))
+    go true p q = p
+    go false p q = q
+
+module _ (image approved : List ℕ) (signature : ℕ) (output held : List ℕ) where
+  abbrev d : Header
+  d = headerOf approved
+
+  abbrev block : ℕ → List ℕ
+  block = blockOf image approved
+
+  abbrev m : ℕ
+  m = proved d block (d .count)
+
+  abbrev rules : List Rule
+  rules = openRules image approved signature (length output)
+
+  abbrev o : Outcome
+  o = opened image approved signature output held
+
+  abbrev OpenWay : Type 0
+  OpenWay = Way (firstBroken rules) d block output held o
+
+  open-way : OpenWay
+  open-way =
+      subst (Way (firstBroken rules) d block output held) (sym (opened-is image approved signature output held))
+      (way (firstBroken rules) d block output held)
+
+  -- the code of a block that was looked at passes what 0, 13, 14 and 15 do
+  block-code : (f : ℕ → Bool) → T (f 0) → T (f 13 && (f 14 && (f 15 && true)))
+      → T (f (pick (eqb m (d .count)) 0 (blockCode d block m)))
+  block-code f z t = go (eqb m (d .count))
+    where
+      go : (b : Bool) → T (f (pick b 0 (blockCode d block m)))
+      go true = z
+      go false = code-passes f (blockRules d m (expected d block m) (block m)) z t
+
+  pub open-code : (f : ℕ → Bool) → T (f 1) → T (codesPass f rules) → T (f 0) → T (f 13 && (f 14 && (f 15 && true))) → T (f (o .code))
+  open-code f one r z t = go open-way
+    where
+      go : OpenWay → T (f (o .code))
+      go (unwritten h q) = subst (λ (x : Outcome). T (f (x .code))) (sym q) one
+      go (refusing h c q) = subst (λ (x : Outcome). T (f (x .code))) (sym q) (code-passes f rules z r)
+      go (proving h c q) = subst (λ (x : Outcome). T (f (x .code))) (sym q) (block-code f z t)
+
+  -- only a block's own codes come from the blocks, and no others
+  not-block : (cs : List ℕ) → T (not (among cs 0)) → T (not (among cs 13) && (not (among cs 14) && (not (among cs 15) && true)))
+      → T (among cs (o .code)) → o .lent ≡ output
+  not-block cs z t h = go open-way
+    where
+      go : OpenWay → o .lent ≡ output
+      go (unwritten l q) = ap (λ (x : Outcome). x .lent) q
+      go (refusing l c q) = ap (λ (x : Outcome). x .lent) q
+      go (proving l c q) =
+          absurd
+          (T-not (among cs (pick (eqb m (d .count)) 0 (blockCode d block m))) (block-code (λ (x : ℕ). not (among cs x)) z t)
+          (subst (λ (x : Outcome). T (among cs (x .code))) q h))
+
+  pub unchanged : T (among (1 ∷ 4 ∷ 5 ∷ 6 ∷ 7 ∷ 8 ∷ 9 ∷ 10 ∷ 11 ∷ 12 ∷ 29 ∷ []) (o .code)) → o .lent ≡ output
+  unchanged = not-block (1 ∷ 4 ∷ 5 ∷ 6 ∷ 7 ∷ 8 ∷ 9 ∷ 10 ∷ 11 ∷ 12 ∷ 29 ∷ []) tt tt
+
+  -- 13, 14 and 15 come from the blocks alone
+  pub first-part : T (among (13 ∷ 14 ∷ 15 ∷ []) (o .code)) → o .lent ≡ put output 0 (fileUpTo d block m)
+  first-part h = go open-way
+    where
+      go : OpenWay → o .lent ≡ put output 0 (fileUpTo d block m)
+      go (unwritten l q) = absurd (subst (λ (x : Outcome). T (among (13 ∷ 14 ∷ 15 ∷ []) (x .code))) q h)
+      go (refusing l c q) =
+          absurd
+          (T-not (among (13 ∷ 14 ∷ 15 ∷ []) (firstBroken rules))
+          (code-passes (λ (x : ℕ). not (among (13 ∷ 14 ∷ 15 ∷ []) x)) rules tt tt)
+          (subst (λ (x : Outcome). T (among (13 ∷ 14 ∷ 15 ∷ []) (x .code))) q h))
+      go (proving l c q) = ap (λ (x : Outcome). x .lent) q
+
+-- ---- pack
+
+pub packed-unchanged : (p : Order) (output : List ℕ) → (packed p output .code ≡ 0 → ⊥) → packed p output .output ≡ output
+unfolding packed
+packed-unchanged p output ne =
+    ap (λ (b : Bool). pick b (image p) output) (ne-eqb (firstBroken (packRules p (length output))) 0 ne)

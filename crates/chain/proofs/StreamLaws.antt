@@ -1,0 +1,59 @@
+-- Two streams of blocks under one header: they agree as far as both are proved, or two blocks collide.
+use mathlib.Core.Path.{_≡_, refl, sym, ap, _∙_}
+use mathlib.Core.Bool.{Bool, true, false, true≢false}
+use mathlib.Core.List.{List}
+use mathlib.Core.Logic.{_⊎_, inl, inr, ⊎-elim}
+use Prim.Native.Nat.{ℕ, zero, suc, _≤_, _<_}
+use native.Mathlib.Nat.{eq-or-lt-of-le, le-of-suc-le-suc}
+use native.Mathlib.Omega.{arith}
+use Rattle.octets.specs.Parts.{same}
+use Rattle.octets.proofs.TestLaws.{same-eq, eq-same}
+use Rattle.chain.specs.Blocks.{hashField, expected, proved, fileUpTo}
+use Rattle.chain.specs.Hashsum.{hashsum}
+use Rattle.chain.specs.Header.{Header}
+use Rattle.chain.proofs.BlockLaws.{Agree, passes, proper}
+
+-- at one of the first n numbers two different blocks with equal hashsums
+pub record Collision (ids : List ℕ) (n : ℕ) (block block′ : ℕ → List ℕ) : Type 0 where
+  pub number : ℕ
+  pub among : number < n
+  pub differ : block number ≡ block′ number → ⊥
+  pub collide : hashsum ids (block number) ≡ hashsum ids (block′ number)
+
+module _ (d : Header) (block block′ : ℕ → List ℕ) where
+  -- blocks that agree name the same hashsum for the next
+  expected-agrees : (k : ℕ) → Agree k block block′ → expected d block k ≡ expected d block′ k
+  expected-agrees zero a = refl
+  expected-agrees (suc k) a = ap (hashField d) (a k (omega arith))
+
+  module _ (m m′ : ℕ) where
+    equal-hashsums : (k : ℕ) → k < proved d block m → k < proved d block′ m′ → Agree k block block′
+        → hashsum (d .ids) (block k) ≡ hashsum (d .ids) (block′ k)
+    equal-hashsums k h h′ a =
+        proper d k (expected d block k) (block k) (passes d block m k h) .hashed
+        ∙ expected-agrees k a
+        ∙ sym (proper d k (expected d block′ k) (block′ k) (passes d block′ m′ k h′) .hashed)
+
+    pub streams : (n : ℕ) → n ≤ proved d block m → n ≤ proved d block′ m′
+        → Agree n block block′ ⊎ Collision (d .ids) n block block′
+    streams zero h h′ = inl (λ i l. absurd (omega arith))
+    streams (suc n) h h′ =
+        ⊎-elim (λ a. next a (same (block n) (block′ n)) refl)
+        (λ c. let l : c .number < n = c .among in
+        inr (record { number = c .number; among = omega arith; differ = c .differ; collide = c .collide }))
+        (streams n (omega arith) (omega arith))
+      where
+        next : Agree n block block′ → (b : Bool) → same (block n) (block′ n) ≡ b
+            → Agree (suc n) block block′ ⊎ Collision (d .ids) (suc n) block block′
+        next a true e =
+            inl
+            (λ i l. ⊎-elim (λ q. ap block q ∙ same-eq (block n) (block′ n) e ∙ ap block′ (sym q)) (λ r. a i r)
+            (eq-or-lt-of-le (le-of-suc-le-suc l)))
+        next a false e =
+            inr
+            (record {
+              number = n;
+              among = omega arith;
+              differ = λ q. true≢false (sym (eq-same (block n) (block′ n) q) ∙ e);
+              collide = equal-hashsums n h h′ a;
+            })
