@@ -1,18 +1,18 @@
 -- What holds after any bytes: every state that a run comes to stands, and the bounds that follow.
 use mathlib.Core.Bool.{true}
 use mathlib.Core.Path.{_≡_, sym, ap, subst, _∙_}
-use mathlib.Core.List.{List, [], _∷_}
+use mathlib.Core.List.{List, [], _∷_, _++_, List·Memᴰ, List·Memᴰ·not-nil, List·Memᴰ·append-cases}
 use mathlib.Core.Logic.{_⊎_, inl, inr}
-use Prim.Native.Nat.{ℕ, suc, _+_, _*_, _^_, _≤_}
+use Prim.Native.Nat.{ℕ, suc, _+_, _*_, _^_, _≤_, _<_}
 use native.Mathlib.Nat.{add-zero}
 use native.Mathlib.Omega.{arith}
-use lib.ListN.{length}
+use lib.ListN.{length, length-append}
 use Rattle.board.specs.Map.{ordered, total}
-use Rattle.board.proofs.MapLaws.{ordered-means, offset-fits}
-use Rattle.machine.specs.Machine.{Job, State, Store, Turn, step, run, begun, still}
+use Rattle.board.proofs.MapLaws.{Covered, ordered-means, ram-covered, offset-fits}
+use Rattle.machine.specs.Machine.{Job, State, Store, Turn, step, run, trace, begun, still}
 use Rattle.machine.specs.Reached.{Reached}
 use Rattle.machine.specs.declared.Phase.the-variants.{Stopped}
-use Rattle.machine.proofs.MemoryLaws.{length-storesFrom}
+use Rattle.machine.proofs.MemoryLaws.{length-storesFrom, from-inside}
 use Rattle.machine.proofs.Runs.{step-stopped, run-stopped}
 use Rattle.machine.proofs.Standing.{Stands, Proper, Along, Running, running-or-stopped, react-stands, stands-below, begun-stands}
 
@@ -98,3 +98,37 @@ module _ (job : Job) where
             run-used (begun job) xs (begun-stands job) r,
             stands-below job end (run-stands (begun job) xs (begun-stands job)) r,
           ))
+
+  -- ---- stores
+
+  -- bytes stored is the number of stores
+  pub run-stored : (s : State) (xs : List ℕ) → Stands job s → run job s xs .tally .stored ≡ s .tally .stored + length (trace job s xs)
+  unfolding run trace
+  run-stored s [] h = sym (add-zero (s .tally .stored))
+  run-stored s (x ∷ xs) h =
+      let t = step job s x in
+      let one : t .state .tally .stored ≡ s .tally .stored + length (t .stores) =
+      step-cases (λ (u : Turn). u .state .tally .stored ≡ s .tally .stored + length (u .stores)) s x h (λ r u. u .stored) (sym (add-zero (s .tally .stored))) in
+      rw length-append (omega (arith, one, run-stored (t .state) xs (step-stands s x h)))
+
+  -- every store is at an address that is RAM and reachable
+  along-inside : (xs : List Store) (x : Store) → Along (job .unit) xs → List·Memᴰ x xs
+      → Covered (job .unit .map) (x .address) × (x .address < job .unit .reach)
+  along-inside xs x (a, bs, e, r, l) m =
+      let at = from-inside a bs x (subst (List·Memᴰ x) e m) in
+      (ram-covered (job .unit .map) a (length bs) (x .address) r (at .0) (at .1), omega (arith, at, l))
+
+  pub trace-inside : (s : State) (xs : List ℕ) (x : Store) → Stands job s → List·Memᴰ x (trace job s xs)
+      → Covered (job .unit .map) (x .address) × (x .address < job .unit .reach)
+  unfolding trace
+  trace-inside s [] x h m = absurd (List·Memᴰ·not-nil m)
+  trace-inside s (b ∷ xs) x h m =
+      go (List·Memᴰ·append-cases (step job s b .stores) m) (trace-inside (step job s b .state) xs x (step-stands s b h))
+    where
+      go : List·Memᴰ x (step job s b .stores) ⊎ List·Memᴰ x (trace job (step job s b .state) xs)
+          → (List·Memᴰ x (trace job (step job s b .state) xs) → Covered (job .unit .map) (x .address) × (x .address < job .unit .reach))
+          → Covered (job .unit .map) (x .address) × (x .address < job .unit .reach)
+      go (inl n) below =
+          step-cases (λ (t : Turn). List·Memᴰ x (t .stores) → Covered (job .unit .map) (x .address) × (x .address < job .unit .reach)) s b h
+          (λ r t. along-inside (step job s b .stores) x (t .along)) (λ z. absurd (List·Memᴰ·not-nil z)) n
+      go (inr n) below = below n

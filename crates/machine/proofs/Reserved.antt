@@ -324,3 +324,9 @@ run-twin job s k (x ∷ xs) (y ∷ ys) h q =
 pub alike-run : (job : Job) (s : State) (xs ys : List ℕ) → Alike job s xs ys
     → ((j : List ℕ) × (run job s ys ≡ withHeld j (run job s xs))) × (trace job s ys ≡ trace job s xs)
 alike-run job s xs ys q = run-twin job s (s .held) xs ys (held-refl (s .phase) (s .held)) q
+
+pub alike-length : (job : Job) (s : State) (xs ys : List ℕ) → Alike job s xs ys → length xs ≡ length ys
+alike-length job s [] [] q = refl
+alike-length job s [] (y ∷ ys) q = absurd q
+alike-length job s (x ∷ xs) [] q = absurd q
+alike-length job s (x ∷ xs) (y ∷ ys) q = ap suc (alike-length job (step job s x .state) xs ys (q .1))

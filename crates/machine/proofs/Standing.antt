@@ -29,9 +29,9 @@ use Rattle.machine.specs.declared.Phase.the-variants.{Magic, Header, Par
 
 -- how a run has ended: done at the file's end with an entry; before any store, at the magic; or refused behind it
 pub data Ended (job : Job) (s : State) (code : ℕ) : Type 0 where
-  done : code ≡ 0 → s .next ≡ job .fileLength → s .tally .entered ≡ true → Ended job s code
-  unread : code ≡ 16 → s .tally .stored ≡ 0 → Ended job s code
-  refused : 17 ≤ code → code ≤ 27 → Ended job s code
+  at-end : code ≡ 0 → s .next ≡ job .fileLength → s .tally .entered ≡ true → Ended job s code
+  at-magic : code ≡ 16 → s .tally .stored ≡ 0 → Ended job s code
+  at-command : 17 ≤ code → code ≤ 27 → Ended job s code
 
 -- what each phase says of the bytes held and of the bytes to come
 abbrev pub Meant : Job → Phase → State → Type 0
@@ -102,7 +102,7 @@ module _ (job : Job) (u : State) (order : u .start ≤ u .next) where
       pick-cases (Proper job (u .next) (u .tally)) (eqb (firstBroken rs) 0) _ _ (λ e. f (zero-all-hold rs n (eqb-true (firstBroken rs) 0 e)))
       (λ e. turned-proper (Stopped (firstBroken rs) (u .start))
       (let c = first-broken-has (λ (c : ℕ). ¬ (c ≡ 0) → (17 ≤ c) × (c ≤ 27)) rs (λ z. absurd (z refl)) among (eqb-false (firstBroken rs) 0 e) in
-      refused (c .0) (c .1)))
+      at-command (c .0) (c .1)))
 
 module _ (job : Job) (u s : State) (xs : List Store) (next : s .next ≡ u .next) (order : s .start ≤ s .next)
     (inside : s .next ≤ job .fileLength) (stored : s .tally .stored ≡ u .tally .stored + length xs)
@@ -112,10 +112,10 @@ module _ (job : Job) (u s : State) (xs : List Store) (next : s .next ≡ u .next
   begins-proper commands =
       pick-cases (λ (t : State). Proper job (u .next) (u .tally) (record { state = t; stores = xs })) (eqb (s .next) (job .fileLength)) _ _
       (λ e. pick-cases (λ (t : State). Proper job (u .next) (u .tally) (record { state = t; stores = xs })) (s .tally .entered) _ _
-      (λ f. stops 0 0 (done refl (eqb-true (s .next) (job .fileLength) e) f))
-      (λ f. stops 27 (job .fileLength) (refused (lit≤ tt) (lit≤ tt))))
+      (λ f. stops 0 0 (at-end refl (eqb-true (s .next) (job .fileLength) e) f))
+      (λ f. stops 27 (job .fileLength) (at-command (lit≤ tt) (lit≤ tt))))
       (λ e. pick-cases (λ (t : State). Proper job (u .next) (u .tally) (record { state = t; stores = xs })) (ltb (job .fileLength - s .next) 16) _ _
-      (λ f. stops 17 (s .next) (refused (lit≤ tt) (lit≤ tt)))
+      (λ f. stops 17 (s .next) (at-command (lit≤ tt) (lit≤ tt)))
       (λ f. record {
         next = next;
         order = omega arith;
@@ -148,7 +148,7 @@ module _ (job : Job) (u : State) (order : u .start ≤ u .next) where
   magic-proper inside none =
       pick-cases (λ (t : State). Proper job (u .next) (u .tally) (still t)) (eqb (little (u .held)) 0x8adc5fa2448cb65e) _ _
       (λ e. begins-proper job u u [] refl order inside (sym (add-zero (u .tally .stored))) (along-none (job .unit)) (omega arith))
-      (λ e. turned-proper job u order (Stopped 16 0) (unread refl none))
+      (λ e. turned-proper job u order (Stopped 16 0) (at-magic refl none))
 
   module _ (next : u .next ≡ u .start + length (u .held)) (whole : length (u .held) ≡ 16) where
     awaits : (k : Command) → commandOf (u .held) ≡ k → 0 < judgedBytes k → wrongLength k (dataLength (u .held)) ≡ false
@@ -366,6 +366,6 @@ begun-stands job =
       inside = omega arith;
       counted = omega arith;
       meant =
-          pick-cases (λ (p : Phase). Meant job p (begun job)) (ltb (job .fileLength) 8) _ _ (λ e. unread refl refl)
+          pick-cases (λ (p : Phase). Meant job p (begun job)) (ltb (job .fileLength) 8) _ _ (λ e. at-magic refl refl)
           (λ e. (refl, lit≤ tt, ltb-false (job .fileLength) 8 e, refl));
     }

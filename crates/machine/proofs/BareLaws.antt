@@ -1,0 +1,90 @@
+-- Running bare, taken apart: the answer and the stores, which need the memory's length alone, and the two ways that a run goes.
+use mathlib.Core.Bool.{Bool, true, false}
+use mathlib.Core.Path.{_≡_, refl, sym, ap, subst, _∙_}
+use mathlib.Core.List.{List, []}
+use Prim.Native.Nat.{ℕ, _≤_}
+use native.Mathlib.Omega.{arith}
+use borrow.Author.Tests.{eqb-true, eqb-false}
+use lib.Dec.{eqb, lit≤}
+use lib.ListN.{length}
+use Rattle.answers.specs.Answers.{Outcome, answered, refused}
+use Rattle.answers.specs.Rules.{pick, firstBroken}
+use Rattle.answers.specs.declared.Answer.{Answer}
+use Rattle.answers.proofs.RuleLaws.{AllHold, zero-all-hold, first-broken-has}
+use Rattle.board.specs.Map.{Region, regions}
+use Rattle.machine.specs.Bare.{bareRules, jobOf, ranBare, runBare}
+use Rattle.machine.specs.Machine.{Job, State, Store, begun, trace, answerOr, answerWith}
+use Rattle.machine.specs.Memory.{applied}
+use Rattle.machine.specs.declared.Phase.{Phase}
+use Rattle.machine.specs.declared.Phase.the-variants.{Stopped}
+use Rattle.machine.proofs.ReachedLaws.{run-stands, whole-stopped}
+use Rattle.machine.proofs.Standing.{Stands, Meant, Ended, pick-cases, begun-stands}
+
+-- what a bare run answers, and the stores that it makes, where so many bytes of memory are lent
+abbrev pub bareAnswer : List ℕ → List ℕ → List ℕ → ℕ → ℕ → Answer
+bareAnswer file map table mode memory =
+    let code = firstBroken (bareRules file map table mode memory) in
+    let end = ranBare (jobOf (length file) map table mode) file in
+    pick (eqb code 0) (answerOr (end .phase) 0 0 end) (refused code)
+
+abbrev pub bareStores : List ℕ → List ℕ → List ℕ → ℕ → ℕ → List Store
+bareStores file map table mode memory =
+    let job = jobOf (length file) map table mode in
+    pick (eqb (firstBroken (bareRules file map table mode memory)) 0) (trace job (begun job) file) []
+
+-- the answer, and the memory that the stores leave, are what a bare run gives
+pub bare-is : (file map table : List ℕ) (mode : ℕ) (memory held : List ℕ)
+    → runBare file map table mode memory held
+    ≡ answered held (bareAnswer file map table mode (length memory)) memory
+    (applied (regions map) memory (bareStores file map table mode (length memory)))
+unfolding runBare applied
+bare-is file map table mode memory held =
+    let job = jobOf (length file) map table mode in
+    let end = ranBare job file in
+    let code = firstBroken (bareRules file map table mode (length memory)) in
+    by-test (eqb code 0) (answerOr (end .phase) 0 0 end) (refused code) (trace job (begun job) file)
+  where
+    by-test : (b : Bool) (x y : Answer) (xs : List Store)
+        → pick b (answered held x memory (applied (regions map) memory xs)) (answered held y memory memory)
+        ≡ answered held (pick b x y) memory (applied (regions map) memory (pick b xs []))
+    by-test true x y xs = refl
+    by-test false x y xs = refl
+
+module _ (file map table : List ℕ) (mode : ℕ) where
+  abbrev bareJob : Job
+  bareJob = jobOf (length file) map table mode
+
+  abbrev bareEnd : State
+  bareEnd = ranBare bareJob file
+
+  -- a run over the whole file has ended
+  pub bare-ended : (code : ℕ) × (place : ℕ) × (bareEnd .phase ≡ Stopped code place) × Ended bareJob bareEnd code
+  bare-ended =
+      let (code, place, e) = whole-stopped bareJob file refl in (
+        code,
+        place,
+        e,
+        subst (λ (p : Phase). Meant bareJob p bareEnd) e (run-stands bareJob (begun bareJob) file (begun-stands bareJob) .meant),
+      )
+
+  -- a bare run is refused before it looks at the file, by 1 to 3, or it is the run over the whole file
+  pub bare-cases : (P : Answer → List Store → Type 0) (memory : ℕ) → ((code : ℕ) → 1 ≤ code → code ≤ 3 → P (refused code) [])
+      → (AllHold (bareRules file map table mode memory) → (code place : ℕ) → bareEnd .phase ≡ Stopped code place → Ended bareJob bareEnd code
+      → P (answerWith code place bareEnd) (trace bareJob (begun bareJob) file))
+      → P (bareAnswer file map table mode memory) (bareStores file map table mode memory)
+  bare-cases P memory f g = go (eqb code 0) refl
+    where
+      code : ℕ
+      code = firstBroken (bareRules file map table mode memory)
+
+      few : code ≤ 3
+      few =
+          first-broken-has (λ (c : ℕ). c ≤ 3) (bareRules file map table mode memory) (lit≤ tt) (lit≤ tt, (lit≤ tt, (lit≤ tt, (lit≤ tt, (lit≤ tt, (lit≤ tt, (lit≤ tt, (lit≤ tt, (lit≤ tt, (lit≤ tt, (lit≤ tt, tt)))))))))))
+
+      go : (b : Bool) → eqb code 0 ≡ b
+          → P (pick b (answerOr (bareEnd .phase) 0 0 bareEnd) (refused code)) (pick b (trace bareJob (begun bareJob) file) [])
+      go true e =
+          let (c, p, q, h) = bare-ended in
+          rw (ap (λ (p : Phase). answerOr p 0 0 bareEnd) q)
+          (g (zero-all-hold (bareRules file map table mode memory) tt (eqb-true code 0 e)) c p q h)
+      go false e = f code (omega (arith, eqb-false code 0 e)) few

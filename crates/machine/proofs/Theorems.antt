@@ -1,0 +1,144 @@
+-- The theorems of the command machine and of running bare, each with the sentence that it carries.
+use mathlib.Core.Bool.{Bool, true, false}
+use mathlib.Core.Path.{_≡_, refl, sym, ap, ap₂, subst, _∙_}
+use mathlib.Core.List.{List, [], _∷_, _++_, append-nil, List·Memᴰ, List·Memᴰ·head, List·Memᴰ·tail, Memᴰ·append-right}
+use mathlib.Core.Logic.{_⊎_, inl, inr, _≢_}
+use Prim.Native.Nat.{ℕ, suc, _+_, _≤_, _<_}
+use native.Mathlib.Nat.{zero-add}
+use native.Mathlib.Omega.{arith}
+use borrow.Author.Tests.{eqb-true, ne-eqb}
+use lib.Dec.{eqb, lit≤}
+use lib.ListN.{length, getD}
+use Rattle.answers.specs.Answers.{Outcome, answered, refused, recordBytes}
+use Rattle.answers.specs.Rules.{pick, firstBroken}
+use Rattle.answers.specs.declared.Answer.{Answer}
+use Rattle.board.specs.Map.{Region, regions, total, offset}
+use Rattle.board.proofs.MapLaws.{Ordered, Covered, offset-injective, offset-inside}
+use Rattle.machine.specs.Bare.{jobOf, ranBare, runBare}
+use Rattle.machine.specs.Commands.{address}
+use Rattle.machine.specs.Machine.{Job, State, Store, begun, run, trace, answerOr, answerWith}
+use Rattle.machine.specs.Memory.{applied}
+use Rattle.machine.specs.declared.Phase.{Phase}
+use Rattle.machine.specs.declared.Phase.the-variants.{Magic, Header, Parameters, Storing, Skipping, Stopped}
+use Rattle.machine.proofs.BareLaws.{bareAnswer, bareStores, bare-is, bare-cases}
+use Rattle.machine.proofs.History.{commandsDone, LastEntry, run-account, last-entry}
+use Rattle.machine.proofs.MemoryLaws.{byte-kept, byte-stored}
+use Rattle.machine.proofs.ReachedLaws.{run-stands, run-stored, trace-inside}
+use Rattle.machine.proofs.Reserved.{Alike, withHeld, alike-run, alike-length}
+use Rattle.machine.proofs.Runs.{trace-append, trace-stopped}
+use Rattle.machine.proofs.Standing.{Meant, Ended, at-end, at-magic, at-command, begun-stands, pick-cases}
+
+-- ---- the order of stores
+
+-- What the first bytes of a file cause, at one and the same file length, is a first part of what the whole file causes, in order.
+pub first-part : (job : Job) (xs ys : List ℕ)
+    → trace job (begun job) (xs ++ ys) ≡ trace job (begun job) xs ++ trace job (run job (begun job) xs) ys
+first-part job xs ys = trace-append job (begun job) xs ys
+
+-- A run that has stopped stores nothing more.
+pub stopped-stores-nothing : (job : Job) (xs ys : List ℕ) {code place : ℕ} → run job (begun job) xs .phase ≡ Stopped code place
+    → trace job (begun job) (xs ++ ys) ≡ trace job (begun job) xs
+stopped-stores-nothing job xs ys e =
+    first-part job xs ys
+    ∙ ap (λ (r : List Store). trace job (begun job) xs ++ r) (trace-stopped job (run job (begun job) xs) ys e)
+    ∙ append-nil (trace job (begun job) xs)
+
+-- ---- where stores go
+
+-- Every store is at an address in a region of the map and below the reach limit.
+pub store-inside : (job : Job) (bytes : List ℕ) (x : Store) → List·Memᴰ x (trace job (begun job) bytes)
+    → Covered (job .unit .map) (x .address) × (x .address < job .unit .reach)
+store-inside job bytes x m = trace-inside job (begun job) bytes x (begun-stands job) m
+
+module _ (job : Job) (taken : Ordered 0 (job .unit .map)) (bytes memory : List ℕ) where
+  abbrev stores : List Store
+  stores = trace job (begun job) bytes
+
+  abbrev map : List Region
+  map = job .unit .map
+
+  apart : (x y : ℕ) → Covered map x → Covered map y → y ≢ x → offset map x ≢ offset map y
+  apart x y c d n e = n (sym (offset-injective 0 map taken x y c d e))
+
+  -- A memory byte whose address no store has is unchanged.
+  pub byte-unchanged : (a : ℕ) → Covered map a → ((x : Store) → List·Memᴰ x stores → x .address ≢ a)
+      → getD (applied map memory stores) (offset map a) 0 ≡ getD memory (offset map a) 0
+  byte-unchanged a c none =
+      byte-kept map memory stores (offset map a)
+      (λ x m. apart a (x .address) c (store-inside job bytes x m .0) (none x m))
+
+  -- One that has is the last such store's byte.
+  pub byte-of-last-store : (xs : List Store) (x : Store) (ys : List Store) → stores ≡ xs ++ (x ∷ ys) → total map ≤ length memory
+      → ((y : Store) → List·Memᴰ y ys → y .address ≢ x .address)
+      → getD (applied map memory stores) (offset map (x .address)) 0 ≡ x .byte
+  byte-of-last-store xs x ys e lent last =
+      let in-stores : (y : Store) → List·Memᴰ y (x ∷ ys) → Covered map (y .address) =
+      λ y m. store-inside job bytes y (subst (List·Memᴰ y) (sym e) (Memᴰ·append-right xs m)) .0 in
+      let c = in-stores x (List·Memᴰ·head refl) in
+      ap (λ (zs : List Store). getD (applied map memory zs) (offset map (x .address)) 0) e
+      ∙ byte-stored map memory xs x ys (omega (arith, offset-inside 0 map taken (x .address) c))
+      (λ y m. apart (x .address) (y .address) c (in-stores y (List·Memᴰ·tail m)) (last y m))
+
+-- ---- counts and entry
+
+-- Bytes stored is the number of stores.
+pub stored-counts-stores : (job : Job) (bytes : List ℕ) → run job (begun job) bytes .tally .stored ≡ length (trace job (begun job) bytes)
+stored-counts-stores job bytes =
+    run-stored job (begun job) bytes (begun-stands job) ∙ zero-add (length (trace job (begun job) bytes))
+
+-- Done is said only when every byte of the file has been used and an entry command was among the commands;
+-- the entry is the last one's.
+pub done-means : (job : Job) (bytes : List ℕ) {place : ℕ} → run job (begun job) bytes .phase ≡ Stopped 0 place
+    → (run job (begun job) bytes .next ≡ job .fileLength)
+    × ((c : List ℕ) × LastEntry (commandsDone job (begun job) bytes) c × (run job (begun job) bytes .tally .entry ≡ address c))
+done-means job bytes {place} e = ended (subst (λ (p : Phase). Meant job p end) e (run-stands job (begun job) bytes (begun-stands job) .meant))
+  where
+    end : State
+    end = run job (begun job) bytes
+
+    ended : Ended job end 0
+        → (end .next ≡ job .fileLength)
+        × ((c : List ℕ) × LastEntry (commandsDone job (begun job) bytes) c × (end .tally .entry ≡ address c))
+    ended (at-end q n f) =
+        let account = run-account job (begun job) bytes (begun-stands job) in
+        let (c, l, a) = last-entry (commandsDone job (begun job) bytes) 0 (sym (account .entered) ∙ f) in
+        (n, (c, l, account .entry ∙ a))
+    ended (at-magic q n) = absurd (omega (arith, q))
+    ended (at-command l u) = absurd (omega (arith, l))
+
+-- ---- running bare
+
+module _ (file map table : List ℕ) (mode : ℕ) where
+  abbrev job : Job
+  job = jobOf (length file) map table mode
+
+  -- On every refusal the entry is 0.
+  pub refusal-has-no-entry : (memory : ℕ) → bareAnswer file map table mode memory .code ≢ 0 → bareAnswer file map table mode memory .entry ≡ 0
+  refusal-has-no-entry memory =
+      bare-cases file map table mode (λ (a : Answer) (xs : List Store). a .code ≢ 0 → a .entry ≡ 0) memory (λ code l u n. refl)
+      (λ h code place e q n. ap (λ (b : Bool). pick b (ranBare job file .tally .entry) 0) (ne-eqb code 0 n))
+
+  -- The record's bytes stored is the number of the stores made.
+  pub record-counts-stores : (memory : ℕ) → bareAnswer file map table mode memory .stored ≡ length (bareStores file map table mode memory)
+  record-counts-stores memory =
+      bare-cases file map table mode (λ (a : Answer) (xs : List Store). a .stored ≡ length xs) memory (λ code l u. refl)
+      (λ h code place e q. stored-counts-stores job file)
+
+  -- The codes of a bare run are 0 to 3 and 16 to 27.
+  pub bare-codes : (memory held : List ℕ)
+      → (runBare file map table mode memory held .code ≤ 3)
+      ⊎ ((16 ≤ runBare file map table mode memory held .code) × (runBare file map table mode memory held .code ≤ 27))
+  bare-codes memory held =
+      rw (bare-is file map table mode memory held)
+      (pick-cases (λ (o : Outcome). Given (o .code)) (eqb (length held) 40) _ _
+      (λ e. bare-cases file map table mode (λ (a : Answer) (xs : List Store). Given (a .code)) (length memory) (λ code l u. inl u)
+      (λ h code place q r. by-end code r))
+      (λ e. inl (lit≤ tt)))
+    where
+      Given : ℕ → Type 0
+      Given c = (c ≤ 3) ⊎ ((16 ≤ c) × (c ≤ 27))
+
+      by-end : (code : ℕ) → Ended job (ranBare job file) code → Given code
+      by-end code (at-end q n f) = inl (omega (arith, q))
+      by-end code (at-magic q n) = inr (omega (arith, q), omega (arith, q))
+      by-end code (at-command l u) = inr (omega (arith, l), u)
