@@ -44,6 +44,22 @@ fn bytes_of<W: Copy, const B: usize, const OUT: usize>(
     out
 }
 
+/// One round. In place of moving the eight words on, the next round names them one further.
+macro_rules! round {
+    ($a:ident $b:ident $c:ident $d:ident $e:ident $f:ident $g:ident $h:ident, $k:expr, $w:expr) => {
+        let ch = ($e & $f) ^ (!$e & $g);
+        let maj = ($a & $b) ^ ($a & $c) ^ ($b & $c);
+        let t1 = $h
+            .wrapping_add(big_sigma1($e))
+            .wrapping_add(ch)
+            .wrapping_add($k)
+            .wrapping_add($w);
+        let t2 = big_sigma0($a).wrapping_add(maj);
+        $d = $d.wrapping_add(t1);
+        $h = t1.wrapping_add(t2);
+    };
+}
+
 /// One width: its word, rounds and constants, and the amounts of the functions of 4.1.2 or 4.1.3.
 /// A capital sigma is three rotations, a small one two rotations and a shift.
 macro_rules! width {
@@ -83,22 +99,26 @@ macro_rules! width {
             fn compress(state: [$word; 8], block: &[u8]) -> [$word; 8] {
                 let w = schedule(block);
                 let [mut a, mut b, mut c, mut d, mut e, mut f, mut g, mut h] = state;
-                for t in 0..$rounds {
-                    let sigma1 = e.rotate_right($t0) ^ e.rotate_right($t1) ^ e.rotate_right($t2);
-                    let ch = (e & f) ^ (!e & g);
-                    let t1 = h
-                        .wrapping_add(sigma1)
-                        .wrapping_add(ch)
-                        .wrapping_add(super::$k[t])
-                        .wrapping_add(w[t]);
-                    let sigma0 = a.rotate_right($s0) ^ a.rotate_right($s1) ^ a.rotate_right($s2);
-                    let maj = (a & b) ^ (a & c) ^ (b & c);
-                    let t2 = sigma0.wrapping_add(maj);
-                    (h, g, f, e) = (g, f, e, d.wrapping_add(t1));
-                    (d, c, b, a) = (c, b, a, t1.wrapping_add(t2));
+                for (k, w) in super::$k.chunks_exact(8).zip(w.chunks_exact(8)) {
+                    round!(a b c d e f g h, k[0], w[0]);
+                    round!(h a b c d e f g, k[1], w[1]);
+                    round!(g h a b c d e f, k[2], w[2]);
+                    round!(f g h a b c d e, k[3], w[3]);
+                    round!(e f g h a b c d, k[4], w[4]);
+                    round!(d e f g h a b c, k[5], w[5]);
+                    round!(c d e f g h a b, k[6], w[6]);
+                    round!(b c d e f g h a, k[7], w[7]);
                 }
                 let turned = [a, b, c, d, e, f, g, h];
                 std::array::from_fn(|i| state[i].wrapping_add(turned[i]))
+            }
+
+            fn big_sigma0(x: $word) -> $word {
+                x.rotate_right($s0) ^ x.rotate_right($s1) ^ x.rotate_right($s2)
+            }
+
+            fn big_sigma1(x: $word) -> $word {
+                x.rotate_right($t0) ^ x.rotate_right($t1) ^ x.rotate_right($t2)
             }
 
             /// The message schedule W of a block.
