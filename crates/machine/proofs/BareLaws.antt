@@ -1,24 +1,24 @@
 -- Running bare, taken apart: the answer and the stores, which need the memory's length alone, and the two ways that a run goes.
 use mathlib.Core.Bool.{Bool, true, false}
-use mathlib.Core.Path.{_≡_, refl, sym, ap, subst, _∙_}
+use mathlib.Core.Path.{_≡_, refl, ap, subst}
 use mathlib.Core.List.{List, []}
 use Prim.Native.Nat.{ℕ, _≤_}
 use native.Mathlib.Omega.{arith}
 use borrow.Author.Tests.{eqb-true, eqb-false}
 use lib.Dec.{eqb, lit≤}
 use lib.ListN.{length}
-use Rattle.answers.specs.Answers.{Outcome, answered, refused}
+use Rattle.answers.specs.Answers.{answered, refused}
 use Rattle.answers.specs.Rules.{pick, firstBroken}
 use Rattle.answers.specs.declared.Answer.{Answer}
 use Rattle.answers.proofs.RuleLaws.{AllHold, zero-all-hold, first-broken-has}
-use Rattle.board.specs.Map.{Region, regions}
+use Rattle.board.specs.Map.{regions}
 use Rattle.machine.specs.Bare.{bareRules, jobOf, ranBare, runBare}
 use Rattle.machine.specs.Machine.{Job, State, Store, begun, trace, answerOr, answerWith}
 use Rattle.machine.specs.Memory.{applied}
 use Rattle.machine.specs.declared.Phase.{Phase}
 use Rattle.machine.specs.declared.Phase.the-variants.{Stopped}
 use Rattle.machine.proofs.ReachedLaws.{run-stands, whole-stopped}
-use Rattle.machine.proofs.Standing.{Stands, Meant, Ended, pick-cases, begun-stands}
+use Rattle.machine.proofs.Standing.{Meant, Ended, begun-stands}
 
 -- what a bare run answers, and the stores that it makes, where so many bytes of memory are lent
 abbrev pub bareAnswer : List ℕ → List ℕ → List ℕ → ℕ → ℕ → Answer

@@ -3,20 +3,21 @@ use mathlib.Core.Bool.{Bool, true, false}
 use mathlib.Core.Path.{_≡_, refl, sym, ap, ap₂, subst, _∙_}
 use mathlib.Core.List.{List, [], _∷_, _++_, append-nil, List·Memᴰ, List·Memᴰ·head, List·Memᴰ·tail, Memᴰ·append-right}
 use mathlib.Core.Logic.{_⊎_, inl, inr, _≢_}
-use Prim.Native.Nat.{ℕ, suc, _+_, _≤_, _<_}
+use Prim.Native.Nat.{ℕ, _≤_, _<_}
 use native.Mathlib.Nat.{zero-add}
 use native.Mathlib.Omega.{arith}
-use borrow.Author.Tests.{eqb-true, ne-eqb}
+use borrow.Author.Tests.{eq-eqb, ne-eqb}
 use lib.Dec.{eqb, lit≤}
 use lib.ListN.{length, getD}
 use Rattle.answers.specs.Answers.{Outcome, answered, refused, recordBytes}
-use Rattle.answers.specs.Rules.{pick, firstBroken}
+use Rattle.answers.specs.Rules.{pick, Rule, firstBroken, sizeRules}
 use Rattle.answers.specs.declared.Answer.{Answer}
-use Rattle.board.specs.Map.{Region, regions, total, offset}
+use Rattle.board.specs.Cpuid.{tableRules}
+use Rattle.board.specs.Map.{Region, regions, total, offset, mapRules}
 use Rattle.board.proofs.MapLaws.{Ordered, Covered, offset-injective, offset-inside}
-use Rattle.machine.specs.Bare.{jobOf, ranBare, runBare}
+use Rattle.machine.specs.Bare.{modeRules, jobOf, ranBare, runBare}
 use Rattle.machine.specs.Commands.{address}
-use Rattle.machine.specs.Machine.{Job, State, Store, begun, run, trace, answerOr, answerWith}
+use Rattle.machine.specs.Machine.{Job, State, Store, begun, run, trace, answerOr}
 use Rattle.machine.specs.Memory.{applied}
 use Rattle.machine.specs.declared.Phase.{Phase}
 use Rattle.machine.specs.declared.Phase.the-variants.{Magic, Header, Parameters, Storing, Skipping, Stopped}
@@ -108,6 +109,10 @@ done-means job bytes {place} e = ended (subst (λ (p : Phase). Meant job p end) 
 
 -- ---- running bare
 
+-- 1 to 3, and 16
+abbrev pub Early : ℕ → Type 0
+Early c = ((1 ≤ c) × (c ≤ 3)) ⊎ (c ≡ 16)
+
 module _ (file map table : List ℕ) (mode : ℕ) where
   abbrev job : Job
   job = jobOf (length file) map table mode
@@ -142,3 +147,111 @@ module _ (file map table : List ℕ) (mode : ℕ) where
       by-end code (at-end q n f) = inl (omega (arith, q))
       by-end code (at-magic q n) = inr (omega (arith, q), omega (arith, q))
       by-end code (at-command l u) = inr (omega (arith, l), u)
+
+  -- Codes 1 to 3 and 16 leave all of memory unchanged.
+  pub early-codes-keep-memory : (memory held : List ℕ) → Early (runBare file map table mode memory held .code)
+      → runBare file map table mode memory held .lent ≡ memory
+  unfolding applied
+  early-codes-keep-memory memory held =
+      rw (bare-is file map table mode memory held)
+      (pick-cases (λ (o : Outcome). Early (o .code) → o .lent ≡ memory) (eqb (length held) 40) _ _
+      (λ e. bare-cases file map table mode (λ (a : Answer) (xs : List Store). Early (a .code) → applied (regions map) memory xs ≡ memory) (length memory)
+      (λ code l u n. refl)
+      (λ h code place q r n. ap (applied (regions map) memory) (by-end code n r)))
+      (λ e n. refl))
+    where
+      none : (xs : List Store) → length xs ≡ 0 → xs ≡ []
+      none [] e = refl
+      none (x ∷ xs) e = absurd (omega (arith, e))
+
+      by-end : (code : ℕ) → Early code → Ended job (ranBare job file) code → trace job (begun job) file ≡ []
+      by-end code (inl n) (at-end q m f) = absurd (omega arith)
+      by-end code (inr n) (at-end q m f) = absurd (omega arith)
+      by-end code n (at-magic q m) = none (trace job (begun job) file) (sym (stored-counts-stores job file) ∙ m)
+      by-end code (inl n) (at-command l u) = absurd (omega arith)
+      by-end code (inr n) (at-command l u) = absurd (omega arith)
+
+  -- Done is answered only when every byte of the file has been used and an entry command was among the commands;
+  -- the entry is the last one's.
+  pub bare-done-means : (memory held : List ℕ) → runBare file map table mode memory held .code ≡ 0
+      → (ranBare job file .next ≡ length file)
+      × ((c : List ℕ) × LastEntry (commandsDone job (begun job) file) c × (bareAnswer file map table mode (length memory) .entry ≡ address c))
+  bare-done-means memory held =
+      rw (bare-is file map table mode memory held)
+      (pick-cases (λ (o : Outcome). o .code ≡ 0 → Done (bareAnswer file map table mode (length memory))) (eqb (length held) 40) _ _
+      (λ e. bare-cases file map table mode (λ (a : Answer) (xs : List Store). a .code ≡ 0 → Done a) (length memory)
+      (λ code l u n. absurd (omega arith))
+      (λ h code place q r n.
+      let (used, (c, l, a)) = done-means job file (q ∙ ap (λ (x : ℕ). Stopped x place) n) in
+      (used, (c, l, ap (λ (b : Bool). pick b (ranBare job file .tally .entry) 0) (eq-eqb code 0 n) ∙ a))))
+      (λ e n. absurd (omega arith)))
+    where
+      Done : Answer → Type 0
+      Done a =
+          (ranBare job file .next ≡ length file)
+          × ((c : List ℕ) × LastEntry (commandsDone job (begun job) file) c × (a .entry ≡ address c))
+
+  -- Code and record do not depend on what memory held, nor do the stores (`bareStores`).
+  pub memory-not-read : (m n held : List ℕ) → length m ≡ length n
+      → (runBare file map table mode m held .code ≡ runBare file map table mode n held .code)
+      × (runBare file map table mode m held .answer ≡ runBare file map table mode n held .answer)
+  memory-not-read m n held e =
+      rw (bare-is file map table mode m held, bare-is file map table mode n held, e)
+      (same (eqb (length held) 40) (bareAnswer file map table mode (length n)) _ _)
+    where
+      outcome : Bool → Answer → List ℕ → List ℕ → Outcome
+      outcome b a before after =
+          pick b (record { code = a .code; answer = recordBytes a; lent = after }) (record { code = 1; answer = held; lent = before })
+
+      same : (b : Bool) (a : Answer) (x y : List ℕ) → (outcome b a m x .code ≡ outcome b a n y .code) × (outcome b a m x .answer ≡ outcome b a n y .answer)
+      same true a x y = (refl, refl)
+      same false a x y = (refl, refl)
+
+  -- Two files that differ only in reserved bytes get the same answer and memory.
+  pub reserved-bytes-not-read : (other memory held : List ℕ) → Alike job (begun job) file other
+      → runBare other map table mode memory held ≡ runBare file map table mode memory held
+  reserved-bytes-not-read other memory held q =
+      bare-is other map table mode memory held
+      ∙ ap₂ (λ (a : Answer) (xs : List Store). answered held a memory (applied (regions map) memory xs)) answers stores
+      ∙ sym (bare-is file map table mode memory held)
+    where
+      rules : ℕ → List Rule
+      rules n = modeRules mode ++ sizeRules n ++ mapRules map (length memory) ++ tableRules table
+
+      answerAt : ℕ → List ℕ → Answer
+      answerAt n bytes =
+          let end = ranBare (jobOf n map table mode) bytes in
+          pick (eqb (firstBroken (rules n)) 0) (answerOr (end .phase) 0 0 end) (refused (firstBroken (rules n)))
+
+      storesAt : ℕ → List ℕ → List Store
+      storesAt n bytes =
+          pick (eqb (firstBroken (rules n)) 0) (trace (jobOf n map table mode) (begun (jobOf n map table mode)) bytes) []
+
+      unheld : (p : Phase) (j : List ℕ) (s : State) → answerOr p 0 0 (withHeld j s) ≡ answerOr p 0 0 s
+      unheld Magic j s = refl
+      unheld Header j s = refl
+      unheld Parameters j s = refl
+      unheld (Storing a left) j s = refl
+      unheld (Skipping left) j s = refl
+      unheld (Stopped code place) j s = refl
+
+      long : length other ≡ length file
+      long = sym (alike-length job (begun job) file other q)
+
+      answers : bareAnswer other map table mode (length memory) ≡ bareAnswer file map table mode (length memory)
+      answers =
+          let end = ranBare job file in
+          let (j, e) = alike-run job (begun job) file other q .0 in
+          ap (λ (n : ℕ). answerAt n other) long
+          ∙ ap (λ (t : State). pick (eqb (firstBroken (rules (length file))) 0) (answerOr (t .phase) 0 0 t) (refused (firstBroken (rules (length file))))) e
+          ∙ ap (λ (a : Answer). pick (eqb (firstBroken (rules (length file))) 0) a (refused (firstBroken (rules (length file))))) (unheld (end .phase) j end)
+
+      stores : bareStores other map table mode (length memory) ≡ bareStores file map table mode (length memory)
+      stores =
+          ap (λ (n : ℕ). storesAt n other) long
+          ∙ ap (λ (xs : List Store). pick (eqb (firstBroken (rules (length file))) 0) xs []) (alike-run job (begun job) file other q .1)
+
+  -- Two results that the promise of run bare allows are equal.
+  pub result-unique : (memory held : List ℕ) (o p : Outcome) → o ≡ runBare file map table mode memory held → p ≡ runBare file map table mode memory held
+      → o ≡ p
+  result-unique memory held o p e q = e ∙ sym q
