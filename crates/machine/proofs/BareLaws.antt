@@ -1,17 +1,18 @@
 -- Running bare, taken apart: the answer and the stores, which need the memory's length alone, and the two ways that a run goes.
 use mathlib.Core.Bool.{Bool, true, false}
-use mathlib.Core.Path.{_≡_, refl, ap, subst}
+use mathlib.Core.Path.{_≡_, refl, ap, subst, _∙_}
 use mathlib.Core.List.{List, []}
 use Prim.Native.Nat.{ℕ, _≤_}
 use native.Mathlib.Omega.{arith}
-use borrow.Author.Tests.{eqb-true, eqb-false}
+use borrow.Author.Tests.{eqb-true, eqb-false, eq-eqb}
 use lib.Dec.{eqb, lit≤}
 use lib.ListN.{length}
-use Rattle.answers.specs.Answers.{answered, refused}
+use Rattle.answers.specs.Answers.{Outcome, answered, refused, recordBytes}
 use Rattle.answers.specs.Rules.{pick, firstBroken}
 use Rattle.answers.specs.declared.Answer.{Answer}
-use Rattle.answers.proofs.RuleLaws.{AllHold, zero-all-hold, first-broken-has}
-use Rattle.board.specs.Map.{regions}
+use Rattle.answers.proofs.RuleLaws.{AllHold, zero-all-hold, all-hold-zero, first-broken-has}
+use Rattle.board.specs.Map.{regions, mapRules}
+use Rattle.board.proofs.MapLaws.{MapTaken, map-means}
 use Rattle.machine.specs.Bare.{bareRules, jobOf, ranBare, runBare}
 use Rattle.machine.specs.Machine.{Job, State, Store, begun, trace, answerOr, answerWith}
 use Rattle.machine.specs.Memory.{applied}
@@ -88,3 +89,29 @@ module _ (file map table : List ℕ) (mode : ℕ) where
           rw (ap (λ (p : Phase). answerOr p 0 0 bareEnd) q)
           (g (zero-all-hold (bareRules file map table mode memory) tt (eqb-true code 0 e)) c p q h)
       go false e = f code (omega (arith, eqb-false code 0 e)) few
+
+-- a bare run that is not refused so has a map that is taken
+pub bare-taken : (file map table : List ℕ) (mode memory : ℕ) → AllHold (bareRules file map table mode memory) → MapTaken map memory
+bare-taken file map table mode memory h =
+    let m = h .1 .1 in
+    map-means map memory
+    (all-hold-zero (mapRules map memory)
+    (m .0, (m .1 .0, (m .1 .1 .0, (m .1 .1 .1 .0, (m .1 .1 .1 .1 .0, (m .1 .1 .1 .1 .1 .0, tt)))))))
+
+-- with a record of 40 bytes memory is left as the stores make it
+pub bare-lent : (file map table : List ℕ) (mode : ℕ) (memory held : List ℕ) → length held ≡ 40
+    → runBare file map table mode memory held .lent
+    ≡ applied (regions map) memory (bareStores file map table mode (length memory))
+bare-lent file map table mode memory held fits =
+    ap (λ (o : Outcome). o .lent) (bare-is file map table mode memory held)
+    ∙ ap (λ (b : Bool). pick b (whole true) (whole false) .lent) (eq-eqb (length held) 40 fits)
+  where
+    whole : Bool → Outcome
+    whole true =
+        let a = bareAnswer file map table mode (length memory) in
+        record {
+          code = a .code;
+          answer = recordBytes a;
+          lent = applied (regions map) memory (bareStores file map table mode (length memory));
+        }
+    whole false = record { code = 1; answer = held; lent = memory }

@@ -8,7 +8,7 @@ use native.Mathlib.Nat.{zero-add}
 use native.Mathlib.Omega.{arith}
 use borrow.Author.Tests.{eq-eqb, ne-eqb}
 use lib.Dec.{eqb, lit≤}
-use lib.ListN.{length, getD}
+use lib.ListN.{length, getD, length-append}
 use Rattle.answers.specs.Answers.{Outcome, answered, refused, recordBytes}
 use Rattle.answers.specs.Rules.{pick, Rule, firstBroken, sizeRules}
 use Rattle.answers.specs.declared.Answer.{Answer}
@@ -21,7 +21,7 @@ use Rattle.machine.specs.Machine.{Job, State, Store, begun, run, trace, 
 use Rattle.machine.specs.Memory.{applied}
 use Rattle.machine.specs.declared.Phase.{Phase}
 use Rattle.machine.specs.declared.Phase.the-variants.{Magic, Header, Parameters, Storing, Skipping, Stopped}
-use Rattle.machine.proofs.BareLaws.{bareAnswer, bareStores, bare-is, bare-cases}
+use Rattle.machine.proofs.BareLaws.{bareAnswer, bareStores, bare-is, bare-cases, bare-taken, bare-lent}
 use Rattle.machine.proofs.History.{commandsDone, LastEntry, run-account, last-entry}
 use Rattle.machine.proofs.MemoryLaws.{byte-kept, byte-stored}
 use Rattle.machine.proofs.ReachedLaws.{run-stands, run-stored, trace-inside}
@@ -147,6 +147,32 @@ module _ (file map table : List ℕ) (mode : ℕ) where
       by-end code (at-end q n f) = inl (omega (arith, q))
       by-end code (at-magic q n) = inr (omega (arith, q), omega (arith, q))
       by-end code (at-command l u) = inr (omega (arith, l), u)
+
+  -- After a bare run: a memory byte whose address no store has is unchanged, and one that has is the last such store's byte.
+  pub bare-byte-unchanged : (memory held : List ℕ) (a : ℕ) → length held ≡ 40 → Covered (regions map) a
+      → ((x : Store) → List·Memᴰ x (bareStores file map table mode (length memory)) → x .address ≢ a)
+      → getD (runBare file map table mode memory held .lent) (offset (regions map) a) 0 ≡ getD memory (offset (regions map) a) 0
+  unfolding applied
+  bare-byte-unchanged memory held a fits c none =
+      ap (λ (m : List ℕ). getD m (offset (regions map) a) 0) (bare-lent file map table mode memory held fits)
+      ∙ bare-cases file map table mode
+      (λ (b : Answer) (xs : List Store). ((x : Store) → List·Memᴰ x xs → x .address ≢ a)
+      → getD (applied (regions map) memory xs) (offset (regions map) a) 0 ≡ getD memory (offset (regions map) a) 0)
+      (length memory) (λ code l u n. refl)
+      (λ h code place q r n. byte-unchanged job (bare-taken file map table mode (length memory) h .order) file memory a c n) none
+
+  pub bare-byte-of-last-store : (memory held : List ℕ) (xs : List Store) (x : Store) (ys : List Store) → length held ≡ 40
+      → bareStores file map table mode (length memory) ≡ xs ++ (x ∷ ys) → ((y : Store) → List·Memᴰ y ys → y .address ≢ x .address)
+      → getD (runBare file map table mode memory held .lent) (offset (regions map) (x .address)) 0 ≡ x .byte
+  bare-byte-of-last-store memory held xs x ys fits e last =
+      ap (λ (m : List ℕ). getD m (offset (regions map) (x .address)) 0) (bare-lent file map table mode memory held fits)
+      ∙ bare-cases file map table mode
+      (λ (b : Answer) (zs : List Store). zs ≡ xs ++ (x ∷ ys) → getD (applied (regions map) memory zs) (offset (regions map) (x .address)) 0 ≡ x .byte)
+      (length memory) (λ code l u q. absurd (omega (arith, ap length q ∙ length-append xs (x ∷ ys))))
+      (λ h code place q r s.
+      let t = bare-taken file map table mode (length memory) h in
+      byte-of-last-store job (t .order) file memory xs x ys s (omega (arith, t .lent)) last)
+      e
 
   -- Codes 1 to 3 and 16 leave all of memory unchanged.
   pub early-codes-keep-memory : (memory held : List ℕ) → Early (runBare file map table mode memory held .code)
