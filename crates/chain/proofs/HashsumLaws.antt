@@ -12,26 +12,26 @@ use Rattle.octets.specs.Parts.{Octets}
 use Rattle.octets.proofs.PartLaws.{octets-append}
 use Rattle.answers.specs.Rules.{pick}
 use Rattle.hashes.specs.Digests.{digest, digestLength}
+use Rattle.hashes.proofs.Theorems.{length-digest, octets-digest, digestLength-most, digestLength-high}
 use Rattle.chain.specs.Hashsum.{hashsum, sumLength, anyUnknown}
-use Rattle.chain.proofs.DigestLaws.{digest-length, digest-octets, digest-at-most, digest-wide}
 
 pub length-hashsum : (ids : List ℕ) (bytes : List ℕ) → length (hashsum ids bytes) ≡ sumLength ids
 unfolding hashsum sumLength
 length-hashsum [] bytes = refl
 length-hashsum (id ∷ ids) bytes =
     length-append (digest id bytes) (hashsum ids bytes)
-    ∙ ap₂ (λ (x y : ℕ). x + y) (digest-length id bytes) (length-hashsum ids bytes)
+    ∙ ap₂ (λ (x y : ℕ). x + y) (length-digest id bytes) (length-hashsum ids bytes)
 
 pub octets-hashsum : (ids : List ℕ) (bytes : List ℕ) → Octets (hashsum ids bytes)
 unfolding hashsum
 octets-hashsum [] bytes = λ i. omega arith
 octets-hashsum (id ∷ ids) bytes =
-    octets-append (digest id bytes) (hashsum ids bytes) (digest-octets id bytes) (octets-hashsum ids bytes)
+    octets-append (digest id bytes) (hashsum ids bytes) (octets-digest id bytes) (octets-hashsum ids bytes)
 
 pub sumLength-at-most : (ids : List ℕ) → sumLength ids ≤ 64 * length ids
 unfolding sumLength
 sumLength-at-most [] = omega arith
-sumLength-at-most (id ∷ ids) = omega (arith, digest-at-most id, sumLength-at-most ids)
+sumLength-at-most (id ∷ ids) = omega (arith, digestLength-most id, sumLength-at-most ids)
 
 -- four hash IDs
 pub sumLength-four : (ids : List ℕ) → length ids ≡ 4 → sumLength ids ≤ 256
@@ -46,7 +46,7 @@ known-first id rest e = go (eqb id 0) (eqb (digestLength id) 0) refl refl e
         → (id < 65536) × (rest ≡ false)
     go true b p q r = (let z : id ≡ 0 = eqb-true id 0 p in omega arith, r)
     go false true p q r = absurd (true≢false r)
-    go false false p q r = (lt-of-not-le (λ h. eqb-false (digestLength id) 0 q (digest-wide id h)), r)
+    go false false p q r = (lt-of-not-le (λ h. eqb-false (digestLength id) 0 q (digestLength-high id h)), r)
 
 pub known-narrow : (ids : List ℕ) → anyUnknown ids ≡ false → (i : ℕ) → getD ids i 0 < 65536
 unfolding anyUnknown

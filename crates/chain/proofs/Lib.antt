@@ -1,7 +1,6 @@
 pub mod BlockLaws
 pub mod CodeCases
 pub mod CodeLaws
-pub mod DigestLaws
 pub mod HashsumLaws
 pub mod HeaderLaws
 pub mod OpenLaws
