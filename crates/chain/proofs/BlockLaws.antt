@@ -201,18 +201,24 @@ module _ (d : Header) (block : ℕ → List ℕ) where
       ∙ put-beside output 0 (length (fileUpTo d block n)) (fileUpTo d block n) (fileBytes d n (block n)) refl (omega arith)
       ∙ ap (λ (f : List ℕ). put output 0 f) (sym (file-more n))
 
-  -- file length = block count x block data length - padding length, also of the first blocks
+  -- file length = block count x block data length - padding length, also of the first blocks, and of none
   pub length-file : (n : ℕ) → ((k : ℕ) → k < n → length (block k) ≡ d .blockSize) → d .padding ≤ dataLength d
-      → 0 < n → length (fileUpTo d block n) ≡ n * dataLength d - d .padding
-  length-file zero sized small pos = omega arith
-  length-file (suc zero) sized small pos =
-      length-more zero ∙ ap₂ (λ (x y : ℕ). x + (y - (d .hashsumLength + d .padding))) (ap length file-none) (sized zero (omega arith))
+      → length (fileUpTo d block n) ≡ n * dataLength d - d .padding
+  length-file zero sized small = ap length file-none ∙ omega arith
+  length-file (suc zero) sized small =
+      length-more zero
+      ∙ ap₂ (λ (x y : ℕ). x + (y - (d .hashsumLength + d .padding))) (ap length file-none) (sized zero (omega arith))
       ∙ omega arith
-  length-file (suc (suc n)) sized small pos =
+  length-file (suc (suc n)) sized small =
       length-more (suc n)
-      ∙ ap₂ (λ (x y : ℕ). x + y) (length-file (suc n) (λ k h. sized k (omega arith)) small (omega arith))
+      ∙ ap₂ (λ (x y : ℕ). x + y) (length-file (suc n) (λ k h. sized k (omega arith)) small)
       (ap₂ (λ (x y : ℕ). x - (d .hashsumLength + y)) (sized (suc n) (omega arith)) (unpadded d n))
       ∙ omega arith
+
+  -- so a file's first part fits where the file does
+  pub first-part-fits : (n : ℕ) → n ≤ d .count → ((k : ℕ) → k < d .count → length (block k) ≡ d .blockSize)
+      → d .padding ≤ dataLength d → length (fileUpTo d block n) ≤ fileLength d
+  first-part-fits n h sized small = omega (arith, file-grows n (d .count) h, length-file (d .count) sized small)
 
 -- ---- what passes 13, 14 and 15
 

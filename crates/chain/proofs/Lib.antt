@@ -1,6 +1,6 @@
 pub mod BlockLaws
 pub mod CodeCases
-pub mod CodeLaws
+pub mod GivenCodes
 pub mod HashsumLaws
 pub mod HeaderLaws
 pub mod OpenLaws

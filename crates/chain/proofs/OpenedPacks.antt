@@ -47,7 +47,7 @@ module _ (d : Header) (size signature : ℕ) (s : Sound d size signature) (block
   one-block = omega (arith, mul-le-mul-right (dataLength d) (s .some))
 
   file-length : length (p .file) ≡ d .count * dataLength d - d .padding
-  file-length = length-file d block (d .count) sized (le-of-lt (s .padded)) (s .some)
+  file-length = length-file d block (d .count) sized (le-of-lt (s .padded))
 
   file-some : 0 < length (p .file)
   file-some =

@@ -18,7 +18,7 @@ use Rattle.chain.specs.Open.{openRules, opened}
 use Rattle.chain.specs.Pack.{Order, Packed, packRules, image, packed}
 use Rattle.chain.proofs.BlockLaws.{Agree, proved-le, file-agrees, file-begins}
 use Rattle.chain.proofs.CodeCases.{OpenCase, openCode, openCases, open-cases, PackCase, packCode, packCases, pack-cases}
-use Rattle.chain.proofs.CodeLaws.{among, code-passes, open-code, unchanged, first-part, packed-unchanged}
+use Rattle.chain.proofs.GivenCodes.{among, code-passes, open-code, unchanged, first-part, packed-unchanged}
 use Rattle.chain.proofs.HeaderLaws.{stream-passed}
 use Rattle.chain.proofs.OpenLaws.{ButSignature, given, doneAnswer, outcome, opened-is, outcome-zero, outcome-done, opened-same}
 use Rattle.chain.proofs.OpenedPacks.{cleared, packed-opened}
