@@ -1,7 +1,7 @@
 -- Laws of the chain of blocks: how many are proved, turn by turn, and the file that they hold.
 use mathlib.Core.Path.{_≡_, refl, sym, ap, ap₂, _∙_}
 use mathlib.Core.Bool.{Bool, true, false, not}
-use mathlib.Core.List.{List, [], _∷_, _++_, append-assoc}
+use mathlib.Core.List.{List, [], _++_}
 use mathlib.Core.Logic.{⊎-elim}
 use Prim.Native.Nat.{ℕ, zero, suc, _+_, _-_, _*_, _≤_, _<_}
 use native.Mathlib.Nat.{eq-or-lt-of-le, zero-add, add-zero, zero-mul, suc-mul, mul-le-mul-right, le-of-eq, le-of-suc-le-suc}
@@ -10,7 +10,7 @@ use borrow.Author.Tests.{eqb-true, eqb-false, eq-eqb, not-false}
 use lib.Dec.{eqb, eqb·suc-zero}
 use lib.ListN.{length, take, drop, length-append, length-drop}
 use lib.Seq.{take-append-le, take-length, take-all, drop-append-le, drop-drop, drop-at}
-use Rattle.octets.specs.Parts.{part, put, same, allZero}
+use Rattle.octets.specs.Parts.{part, put, allZero}
 use Rattle.octets.proofs.PartLaws.{put-beside}
 use Rattle.octets.proofs.TestLaws.{same-eq, eq-same}
 use Rattle.answers.specs.Rules.{pick, firstBroken}

@@ -1,19 +1,19 @@
 -- Which codes open and pack give, and what each leaves in the output.
-use mathlib.Core.Path.{_≡_, refl, sym, ap, subst, _∙_}
+use mathlib.Core.Path.{_≡_, sym, ap, subst}
 use mathlib.Core.Bool.{Bool, true, false, not, _&&_, _||_}
-use mathlib.Core.List.{List, [], _∷_, _++_}
+use mathlib.Core.List.{List, [], _∷_}
 use Prim.Native.Nat.{ℕ}
-use borrow.Author.Tests.{ne-eqb}
+use borrow.Author.Tests.{eq-eqb, ne-eqb}
 use lib.Dec.{T, T-not, eqb}
-use lib.ListN.{length, drop}
+use lib.ListN.{length}
 use Rattle.octets.specs.Parts.{put}
-use Rattle.answers.specs.Answers.{Outcome, refused}
+use Rattle.answers.specs.Answers.{Outcome}
 use Rattle.answers.specs.Rules.{pick, Rule, firstBroken}
 use Rattle.chain.specs.Blocks.{blockOf, blockRules, blockCode, expected, proved, fileUpTo}
 use Rattle.chain.specs.Header.{Header, headerOf}
-use Rattle.chain.specs.Open.{openRules, openAnswer, opened}
+use Rattle.chain.specs.Open.{openRules, opened}
 use Rattle.chain.specs.Pack.{Order, packRules, image, packed}
-use Rattle.chain.proofs.OpenLaws.{Way, unwritten, refusing, proving, way, outcome, opened-is, given, blocksBy}
+use Rattle.chain.proofs.OpenLaws.{Way, unwritten, refusing, proving, way, opened-is}
 
 -- whether a code is one of some
 abbrev pub among : List ℕ → ℕ → Bool
@@ -111,6 +111,15 @@ module _ (image approved : List ℕ) (signature : ℕ) (output held : List ℕ) 
       go (proving l c q) = ap (λ (x : Outcome). x .lent) q
 
 -- ---- pack
+
+pub packed-image : (p : Order) (output : List ℕ) → packed p output .code ≡ 0 → packed p output .output ≡ image p
+unfolding packed
+packed-image p output e =
+    ap (λ (b : Bool). pick b (image p) output) (eq-eqb (firstBroken (packRules p (length output))) 0 e)
+
+pub packed-passes-rules : (p : Order) (output : List ℕ) → packed p output .code ≡ 0 → firstBroken (packRules p (length output)) ≡ 0
+unfolding packed
+packed-passes-rules p output e = e
 
 pub packed-unchanged : (p : Order) (output : List ℕ) → (packed p output .code ≡ 0 → ⊥) → packed p output .output ≡ output
 unfolding packed

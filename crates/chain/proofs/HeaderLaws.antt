@@ -2,15 +2,15 @@
 use mathlib.Core.Path.{_≡_, refl, sym, ap, ap₂, subst, _∙_}
 use mathlib.Core.Bool.{Bool, true, false, not}
 use mathlib.Core.List.{List, [], _∷_, _++_, append-assoc, append-nil}
-use Prim.Native.Nat.{ℕ, zero, suc, _+_, _-_, _*_, _^_, _≤_, _<_}
+use Prim.Native.Nat.{ℕ, _+_, _*_, _^_, _≤_, _<_}
 use native.Mathlib.Omega.{arith}
 use borrow.Author.Tests.{eqb-true, eqb-false, eq-eqb, ne-eqb, ltb-false, le-ltb, leb-false, lt-leb, not-false}
-use lib.Dec.{eqb, leb, ltb}
+use lib.Dec.{eqb, ltb}
 use lib.ListN.{length, getD, take, drop, length-append, take-append-drop, drop-of-length-le}
 use lib.Seq.{take-add, drop-drop, drop-cons}
 use Rattle.octets.specs.Numbers.{little, littleBytes}
 use Rattle.octets.specs.Parts.{part, put, same, Octets}
-use Rattle.octets.proofs.NumberLaws.{length-littleBytes, little-littleBytes-lt, littleBytes-little, little-lt}
+use Rattle.octets.proofs.NumberLaws.{length-littleBytes, little-littleBytes-lt, littleBytes-little}
 use Rattle.octets.proofs.PartLaws.{length-part, part-add, octets-part}
 use Rattle.octets.proofs.TestLaws.{same-eq, eq-same}
 use Rattle.answers.specs.Rules.{Rule, rule, firstBroken, signatureRules, sizeRules}

@@ -10,3 +10,4 @@ pub mod PackedOpens
 pub mod RuleLaws
 pub mod StreamLaws
 pub mod Theorems
+pub mod WritingLaws

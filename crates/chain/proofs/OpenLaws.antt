@@ -1,11 +1,11 @@
 -- Laws of open: its outcome by its header and blocks alone, where it is done, and where two images get the same.
-use mathlib.Core.Path.{_≡_, refl, sym, ap, ap₂, fun-ext, subst, _∙_}
+use mathlib.Core.Path.{_≡_, refl, sym, ap, ap₂, fun-ext, _∙_}
 use mathlib.Core.Bool.{Bool, true, false, not}
 use mathlib.Core.List.{List, [], _∷_, _++_, append-nil}
-use Prim.Native.Nat.{ℕ, zero, suc, _+_, _-_, _*_, _≤_, _<_}
+use Prim.Native.Nat.{ℕ, suc, _+_, _*_}
 use native.Mathlib.Nat.{zero-add, le-of-eq}
 use native.Mathlib.Omega.{arith}
-use borrow.Author.Tests.{eqb-true, eqb-false, eq-eqb, ne-eqb}
+use borrow.Author.Tests.{eqb-true, eqb-false, eq-eqb}
 use lib.Dec.{eqb, ltb}
 use lib.ListN.{length, take, drop, drop-of-length-le}
 use lib.Seq.{drop-drop}
@@ -13,9 +13,9 @@ use Rattle.octets.specs.Parts.{part, put, same}
 use Rattle.answers.specs.Answers.{Outcome, answered, refused, recordBytes}
 use Rattle.answers.specs.Rules.{pick, Rule, rule, firstBroken, signatureRules, sizeRules}
 use Rattle.answers.specs.declared.Answer.{Answer}
-use Rattle.chain.specs.Blocks.{blockOf, blockCode, proved, fileUpTo}
+use Rattle.chain.specs.Blocks.{blockCode, proved, fileUpTo}
 use Rattle.chain.specs.Header.{Header, headerOf, fileLength, blocksStart, fieldRules, streamRules}
-use Rattle.chain.specs.Open.{openRules, openAnswer, opened, signatureField}
+use Rattle.chain.specs.Open.{openRules, openAnswer, opened}
 use Rattle.chain.proofs.BlockLaws.{proved-le, fails}
 
 -- ---- by header and blocks alone

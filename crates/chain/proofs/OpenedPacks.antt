@@ -1,29 +1,29 @@
 -- The blocks of an image that opens are those that pack makes of its file.
-use mathlib.Core.Path.{_≡_, refl, sym, ap, ap₂, subst, _∙_}
-use mathlib.Core.Bool.{Bool, true, false, not}
+use mathlib.Core.Path.{_≡_, sym, ap, ap₂, subst, _∙_}
+use mathlib.Core.Bool.{not}
 use mathlib.Core.List.{List, [], _∷_, _++_, append-assoc}
-use Prim.Native.Nat.{ℕ, zero, suc, _+_, _-_, _*_, _/_, _^_, min, _≤_, _<_}
+use Prim.Native.Nat.{ℕ, zero, suc, _+_, _-_, _*_, _/_, min, _≤_, _<_}
 use native.Mathlib.Nat.{zero-mul, suc-mul, le-of-lt, le-of-eq, mul-le-mul-right}
 use native.Mathlib.Omega.{arith}
 use borrow.Author.Tests.{eqb-true, not-false}
 use lib.Dec.{eqb}
-use lib.ListN.{length, take, drop, replicate, length-append, length-replicate, length-take, length-drop, take-append-drop, drop-of-length-le}
+use lib.ListN.{length, take, drop, replicate, length-replicate, length-take, length-drop, take-append-drop, drop-of-length-le}
 use lib.Seq.{take-at, drop-drop, take-take, take-append-le, drop-append-le}
-use Rattle.octets.specs.Parts.{part, put, allZero, Octets}
+use Rattle.octets.specs.Parts.{part, put, Octets}
 use Rattle.octets.proofs.PartLaws.{length-part, length-put, drop-behind-put, octets-take}
 use Rattle.octets.proofs.TestLaws.{allZero-eq}
 use Rattle.answers.specs.Answers.{Outcome}
 use Rattle.answers.specs.Rules.{pick, Rule, rule, firstBroken}
 use Rattle.answers.proofs.RuleLaws.{zero-all-hold}
-use Rattle.chain.specs.Blocks.{hashField, paddingOf, expected, blockCode, proved, fileUpTo}
+use Rattle.chain.specs.Blocks.{hashField, expected, proved, fileUpTo}
 use Rattle.chain.specs.Hashsum.{hashsum, sumLength}
 use Rattle.chain.specs.Header.{Header, headerOf, headerBytes, dataLength, fileLength, streamRules}
 use Rattle.chain.specs.Open.{openRules, opened}
-use Rattle.chain.specs.Pack.{Order, room, blocks, padding, imageLength, packRules, chunk, link, blocksFrom, packedHeader, image, packed, Packed}
-use Rattle.chain.proofs.BlockLaws.{Proper, proper, pass-all, dataUpTo, length-data, data-part, file-of-data, length-file}
+use Rattle.chain.specs.Pack.{Order, room, blocks, padding, imageLength, chunk, link, blocksFrom, packedHeader, image, packed}
+use Rattle.chain.proofs.BlockLaws.{Proper, proper, pass-all, dataUpTo, data-part, file-of-data, length-file}
 use Rattle.chain.proofs.HeaderLaws.{Sound, Allowed, Passed, stream-passed, written-read}
 use Rattle.chain.proofs.OpenLaws.{blocksBy, outcome, opened-is, outcome-zero, outcome-done}
-use Rattle.chain.proofs.PackLaws.{Packable, packable-passes, Fewest, only-fewest, paddedFile, link-more, link-last, blocks-more, blocks-none}
+use Rattle.chain.proofs.PackLaws.{packable-passes, only-fewest, paddedFile, link-more, link-last, blocks-more, blocks-none}
 use Rattle.chain.proofs.RuleLaws.{both-hold}
 
 -- what is packed again: the file of some blocks, with their header's IDs and sizes

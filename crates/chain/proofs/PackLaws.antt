@@ -1,25 +1,22 @@
 -- Laws of the packed image: the numbers of its blocks, the lengths of its parts, and where its blocks stand.
-use mathlib.Core.Path.{_≡_, refl, sym, ap, ap₂, subst, _∙_}
-use mathlib.Core.Bool.{Bool, true, false, not}
-use mathlib.Core.List.{List, [], _∷_, _++_, append-assoc, append-nil}
+use mathlib.Core.Path.{_≡_, refl, sym, ap, ap₂, _∙_}
+use mathlib.Core.Bool.{false, not}
+use mathlib.Core.List.{List, [], _++_}
 use mathlib.Core.Logic.{⊎-elim}
 use Prim.Native.Nat.{ℕ, zero, suc, _+_, _-_, _*_, _/_, _%_, _^_, _≤_, _<_}
-use native.Mathlib.Nat.{div-add-mod', mod-lt, zero-mul, suc-mul, suc-add, zero-add, add-assoc, mul-le-mul-right, div-eq-of-lt-le, eq-zero-or-pos}
+use native.Mathlib.Nat.{div-add-mod', mod-lt, zero-mul, suc-mul, zero-add, mul-le-mul-right, div-eq-of-lt-le, eq-zero-or-pos}
 use native.Mathlib.Omega.{arith}
 use borrow.Author.Tests.{eqb-true, eqb-false, eq-eqb, ne-eqb, ltb-false, le-ltb, leb-false, lt-leb, not-false}
-use lib.Dec.{eqb, leb, ltb}
 use lib.ListN.{length, getD, take, drop, replicate, length-append, length-replicate}
-use lib.Seq.{take-at, drop-at, drop-append-add}
+use lib.Seq.{take-at, drop-append-add}
 use Rattle.octets.specs.Parts.{part}
 use Rattle.octets.proofs.PartLaws.{length-part}
-use Rattle.answers.specs.Rules.{Rule, rule, firstBroken, signatureRules, sizeRules}
+use Rattle.answers.specs.Rules.{firstBroken}
 use Rattle.answers.proofs.RuleLaws.{zero-all-hold, all-hold-zero}
-use Rattle.chain.specs.Hashsum.{hashsum, sumLength, anyUnknown, idRules}
-use Rattle.chain.specs.Header.{Header, headerBytes}
+use Rattle.chain.specs.Hashsum.{hashsum, sumLength, anyUnknown}
 use Rattle.chain.specs.Pack.{Order, room, blocks, padding, imageLength, packRules, chunk, link, blocksFrom, packedHeader, image}
 use Rattle.chain.proofs.HashsumLaws.{length-hashsum}
 use Rattle.chain.proofs.HeaderLaws.{Allowed, allowed, length-header}
-use Rattle.chain.proofs.RuleLaws.{both-hold}
 
 -- ---- what pack accepts
 

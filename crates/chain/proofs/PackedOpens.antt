@@ -1,28 +1,28 @@
 -- The blocks that pack wrote all pass, and hold the file.
 use mathlib.Core.Path.{_≡_, refl, sym, ap, ap₂, subst, _∙_}
-use mathlib.Core.Bool.{Bool, true, false, not}
+use mathlib.Core.Bool.{true, not}
 use mathlib.Core.List.{List, [], _∷_, _++_, append-assoc}
 use Prim.Native.Nat.{ℕ, zero, suc, _+_, _-_, _*_, _^_, _≤_, _<_}
 use native.Mathlib.Nat.{zero-mul, suc-mul, le-of-lt, le-of-eq, le-mul-of-pos-right}
 use native.Mathlib.Omega.{arith}
 use borrow.Author.Tests.{eq-eqb}
 use lib.Dec.{eqb, lit<}
-use lib.ListN.{length, take, drop, replicate, length-append, length-replicate, length-take}
+use lib.ListN.{length, take, drop, replicate, length-append, length-replicate}
 use lib.Seq.{take-at, drop-at, drop-drop, take-add, take-all, take-take}
 use Rattle.octets.specs.Parts.{part, allZero}
 use Rattle.octets.proofs.TestLaws.{eq-allZero}
-use Rattle.answers.specs.Rules.{Rule, rule, firstBroken}
+use Rattle.answers.specs.Rules.{rule, firstBroken}
 use Rattle.answers.proofs.RuleLaws.{all-hold-zero}
 use Rattle.chain.specs.Blocks.{hashField, paddingOf, expected, blockCode, proved, fileUpTo}
 use Rattle.chain.specs.Hashsum.{hashsum, sumLength}
 use Rattle.chain.specs.Header.{Header, headerOf, headerBytes, fileLength, streamRules}
 use Rattle.chain.specs.Open.{openRules, opened}
 use Rattle.chain.specs.Pack.{Order, room, blocks, padding, imageLength, chunk, link, blocksFrom, packedHeader, image}
-use Rattle.chain.proofs.BlockLaws.{Proper, proper-passes, all-pass, unpadded, dataUpTo, file-of-data}
+use Rattle.chain.proofs.BlockLaws.{proper-passes, all-pass, unpadded, dataUpTo, file-of-data}
 use Rattle.chain.proofs.HashsumLaws.{sumLength-four, known-narrow}
 use Rattle.chain.proofs.HeaderLaws.{Sound, Passed, Allowed, stream-passes, Narrow, read-written, length-header}
 use Rattle.chain.proofs.OpenLaws.{ButSignature, outcome, opened-is, outcome-done, given, doneAnswer, blocksBy}
-use Rattle.chain.proofs.PackLaws.{Packable, Fewest, paddedFile, blocks-fewest, padding-small, padding-fills, length-padded, length-link, length-block, length-image, link-more, link-last, block-stands}
+use Rattle.chain.proofs.PackLaws.{Packable, paddedFile, blocks-fewest, padding-small, padding-fills, length-padded, length-link, length-block, length-image, link-more, link-last, block-stands}
 use Rattle.chain.proofs.RuleLaws.{hold-both}
 
 zeros : (n : ℕ) → allZero (replicate n 0) ≡ true

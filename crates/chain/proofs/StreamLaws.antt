@@ -8,7 +8,7 @@ use native.Mathlib.Nat.{eq-or-lt-of-le, le-of-suc-le-suc}
 use native.Mathlib.Omega.{arith}
 use Rattle.octets.specs.Parts.{same}
 use Rattle.octets.proofs.TestLaws.{same-eq, eq-same}
-use Rattle.chain.specs.Blocks.{hashField, expected, proved, fileUpTo}
+use Rattle.chain.specs.Blocks.{hashField, expected, proved}
 use Rattle.chain.specs.Hashsum.{hashsum}
 use Rattle.chain.specs.Header.{Header}
 use Rattle.chain.proofs.BlockLaws.{Agree, passes, proper}

@@ -1,26 +1,23 @@
 -- What the block chain is held to, each under the sentence that it carries (document 01).
 use mathlib.Core.Path.{_≡_, refl, sym, ap, ap₂, subst, _∙_}
-use mathlib.Core.Bool.{Bool}
 use mathlib.Core.List.{List, [], _∷_, _++_, map}
 use mathlib.Core.Logic.{_⊎_, inl, inr, ⊎-elim}
-use Prim.Native.Nat.{ℕ, suc, _+_, _*_, _≤_, _<_}
+use Prim.Native.Nat.{ℕ, suc, _+_, _≤_, _<_}
 use native.Mathlib.Nat.{zero-add}
 use native.Mathlib.Omega.{arith}
 use lib.Dec.{T}
 use lib.ListN.{length, take, drop}
-use Rattle.octets.specs.Parts.{put, Octets}
-use Rattle.answers.specs.Answers.{Outcome, recordBytes}
-use Rattle.answers.specs.Rules.{firstBroken}
+use Rattle.octets.specs.Parts.{Octets}
+use Rattle.answers.specs.Answers.{Outcome}
 use Rattle.chain.specs.Blocks.{blockOf, proved, fileUpTo}
 use Rattle.chain.specs.Hashsum.{sumLength}
 use Rattle.chain.specs.Header.{Header, headerOf}
-use Rattle.chain.specs.Open.{openRules, opened}
+use Rattle.chain.specs.Open.{opened}
 use Rattle.chain.specs.Pack.{Order, Packed, packRules, image, packed}
-use Rattle.chain.proofs.BlockLaws.{Agree, proved-le, file-agrees, file-begins}
-use Rattle.chain.proofs.CodeCases.{OpenCase, openCode, openCases, open-cases, PackCase, packCode, packCases, pack-cases}
-use Rattle.chain.proofs.GivenCodes.{among, code-passes, open-code, unchanged, first-part, packed-unchanged}
-use Rattle.chain.proofs.HeaderLaws.{stream-passed}
-use Rattle.chain.proofs.OpenLaws.{ButSignature, given, doneAnswer, outcome, opened-is, outcome-zero, outcome-done, opened-same}
+use Rattle.chain.proofs.BlockLaws.{proved-le, file-agrees, file-begins}
+use Rattle.chain.proofs.CodeCases.{openCode, openCases, open-cases, packCode, packCases, pack-cases}
+use Rattle.chain.proofs.GivenCodes.{among, code-passes, open-code, unchanged, first-part, packed-unchanged, packed-image, packed-passes-rules}
+use Rattle.chain.proofs.OpenLaws.{ButSignature, given, doneAnswer, opened-same}
 use Rattle.chain.proofs.OpenedPacks.{cleared, packed-opened}
 use Rattle.chain.proofs.PackLaws.{packable}
 use Rattle.chain.proofs.PackedOpens.{header-first, opened-packed}
@@ -29,15 +26,18 @@ use Rattle.chain.proofs.StreamLaws.{Collision, streams}
 -- 1. Opening what the packer made returns the file: for every file, IDs and sizes that pack accepts, with the packed
 -- header approved and whatever the signature field then holds, open answers 0, bytes stored is the file's length, and
 -- the output is the file.
-pub open-of-pack : (p : Order) (n : ℕ) → length (p .ids) ≡ 4 → firstBroken (packRules p n) ≡ 0
-    → (image′ : List ℕ) → ButSignature (36 + sumLength (p .ids)) (p .signature) (image p) image′
+pub open-of-pack : (p : Order) (blank : List ℕ) → length (p .ids) ≡ 4 → packed p blank .code ≡ 0
+    → (image′ : List ℕ) → ButSignature (36 + sumLength (p .ids)) (p .signature) (packed p blank .output) image′
     → (output held : List ℕ) → length output ≡ length (p .file) → length held ≡ 40
-    → opened image′ (take (36 + sumLength (p .ids)) (image p)) (p .signature) output held
+    → opened image′ (take (36 + sumLength (p .ids)) (packed p blank .output)) (p .signature) output held
     ≡ given (doneAnswer (length (p .file))) (p .file)
-open-of-pack p n four e image′ but output held l h =
-    let ok = packable p n e .0 in
-    ap (λ (a : List ℕ). opened image′ a (p .signature) output held) (header-first p ok four)
-    ∙ opened-packed p ok four image′ but output held l h
+open-of-pack p blank four e image′ but output held l h =
+    let ok = packable p (length blank) (packed-passes-rules p blank e) .0 in
+    let made = packed-image p blank e in
+    ap (λ (x : List ℕ). opened image′ x (p .signature) output held)
+    (ap (λ (x : List ℕ). take (36 + sumLength (p .ids)) x) made ∙ header-first p ok four)
+    ∙ opened-packed p ok four image′
+    (subst (λ (x : List ℕ). ButSignature (36 + sumLength (p .ids)) (p .signature) x image′) made but) output held l h
 
 -- 2. Packing the file of any image that opens, with its IDs and sizes, answers 0 and gives that image again but for
 -- the signature and reserved fields, which are zero.
