@@ -1,6 +1,6 @@
 -- Running bare, taken apart: the answer and the stores, which need the memory's length alone, and the two ways that a run goes.
 use mathlib.Core.Bool.{Bool, true, false}
-use mathlib.Core.Path.{_≡_, refl, ap, subst, _∙_}
+use mathlib.Core.Path.{_≡_, refl, ap, _∙_}
 use mathlib.Core.List.{List, []}
 use Prim.Native.Nat.{ℕ, _≤_}
 use native.Mathlib.Omega.{arith}
@@ -18,8 +18,8 @@ use Rattle.machine.specs.Machine.{Job, State, Store, begun, trace, answe
 use Rattle.machine.specs.Memory.{applied}
 use Rattle.machine.specs.declared.Phase.{Phase}
 use Rattle.machine.specs.declared.Phase.the-variants.{Stopped}
-use Rattle.machine.proofs.ReachedLaws.{run-stands, whole-stopped}
-use Rattle.machine.proofs.Standing.{Meant, Ended, begun-stands}
+use Rattle.machine.proofs.ReachedLaws.{reached-ended, whole-stopped}
+use Rattle.machine.proofs.Standing.{Ended}
 
 -- what a bare run answers, and the stores that it makes, where so many bytes of memory are lent
 abbrev pub bareAnswer : List ℕ → List ℕ → List ℕ → ℕ → ℕ → Answer
@@ -61,12 +61,8 @@ module _ (file map table : List ℕ) (mode : ℕ) where
   -- a run over the whole file has ended
   pub bare-ended : (code : ℕ) × (place : ℕ) × (bareEnd .phase ≡ Stopped code place) × Ended bareJob bareEnd code
   bare-ended =
-      let (code, place, e) = whole-stopped bareJob file refl in (
-        code,
-        place,
-        e,
-        subst (λ (p : Phase). Meant bareJob p bareEnd) e (run-stands bareJob (begun bareJob) file (begun-stands bareJob) .meant),
-      )
+      let (code, place, e) = whole-stopped bareJob file refl in
+      (code, place, e, reached-ended bareJob bareEnd (file, refl) e)
 
   -- a bare run is refused before it looks at the file, by 1 to 3, or it is the run over the whole file
   pub bare-cases : (P : Answer → List Store → Type 0) (memory : ℕ) → ((code : ℕ) → 1 ≤ code → code ≤ 3 → P (refused code) [])

@@ -11,8 +11,48 @@ use lib.Dec.{eqb, ltb}
 use lib.ListN.{length, length-append}
 use Rattle.octets.specs.Numbers.{little}
 use Rattle.answers.specs.Rules.{pick, firstBroken}
-use Rattle.machine.specs.Commands.{commandOf, dataLength, address, fillCount, judgedBytes, headerRules, rangeRules, entryRules, checkRules}
-use Rattle.machine.specs.Machine.{Job, State, Turn, react, step, run, still, kept, used, stopped, tallied, turnedTo, awaiting, withStored, withEntry, withCommand, begins, finished, judged, magicRead, passed, headerRead, writeRead, fillRead, entryRead, checkRead, parametersRead, gathered, unlessLast}
+use Rattle.machine.specs.Commands.{
+  commandOf,
+  dataLength,
+  address,
+  fillCount,
+  judgedBytes,
+  headerRules,
+  rangeRules,
+  entryRules,
+  checkRules,
+}
+use Rattle.machine.specs.Machine.{
+  Job,
+  State,
+  Turn,
+  react,
+  step,
+  run,
+  still,
+  kept,
+  used,
+  stopped,
+  tallied,
+  turnedTo,
+  awaiting,
+  withStored,
+  withEntry,
+  withCommand,
+  begins,
+  finished,
+  judged,
+  magicRead,
+  passed,
+  headerRead,
+  writeRead,
+  fillRead,
+  entryRead,
+  checkRead,
+  parametersRead,
+  gathered,
+  unlessLast,
+}
 use Rattle.machine.specs.declared.Command.{Command}
 use Rattle.machine.specs.declared.Command.the-variants.{Write, Fill, Entry, Check, Skip, Unknown}
 use Rattle.machine.specs.declared.Tally.{Tally}

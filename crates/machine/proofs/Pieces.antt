@@ -12,7 +12,24 @@ use Rattle.octets.specs.Numbers.{little}
 use Rattle.answers.specs.Rules.{pick}
 use Rattle.machine.specs.Code.{keptAll, wanted, reads}
 use Rattle.machine.specs.Commands.{command, commandOf}
-use Rattle.machine.specs.Machine.{Job, State, Store, Turn, react, step, run, trace, still, kept, turnedTo, withStored, begins, finished, gathered, storesFrom}
+use Rattle.machine.specs.Machine.{
+  Job,
+  State,
+  Store,
+  Turn,
+  react,
+  step,
+  run,
+  trace,
+  still,
+  kept,
+  turnedTo,
+  withStored,
+  begins,
+  finished,
+  gathered,
+  storesFrom,
+}
 use Rattle.machine.specs.declared.Tally.{Tally}
 use Rattle.machine.specs.declared.Phase.{Phase}
 use Rattle.machine.specs.declared.Phase.the-variants.{Magic, Header, Parameters, Storing, Skipping, Stopped}

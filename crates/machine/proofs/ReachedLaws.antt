@@ -11,10 +11,22 @@ use Rattle.board.specs.Map.{ordered, total}
 use Rattle.board.proofs.MapLaws.{Covered, ordered-means, ram-covered, offset-fits}
 use Rattle.machine.specs.Machine.{Job, State, Store, Turn, step, run, trace, begun, still}
 use Rattle.machine.specs.Reached.{Reached}
+use Rattle.machine.specs.declared.Phase.{Phase}
 use Rattle.machine.specs.declared.Phase.the-variants.{Stopped}
 use Rattle.machine.proofs.MemoryLaws.{length-storesFrom, from-inside}
 use Rattle.machine.proofs.Runs.{step-stopped, run-stopped}
-use Rattle.machine.proofs.Standing.{Stands, Proper, Along, Running, running-or-stopped, react-stands, stands-below, begun-stands}
+use Rattle.machine.proofs.Standing.{
+  Stands,
+  Meant,
+  Ended,
+  Proper,
+  Along,
+  Running,
+  running-or-stopped,
+  react-stands,
+  stands-below,
+  begun-stands,
+}
 
 -- ---- what each step keeps, a run keeps
 
@@ -79,6 +91,19 @@ module _ (job : Job) where
           → run job (step job s x .state) xs .next ≡ s .next + suc (length xs)
       go (inl q) below = omega (arith, below, react-stands job s x h q .next)
       go (inr (code, place, e)) below = absurd (subst Running (ap (λ (t : State). t .phase) (run-stopped job s (x ∷ xs) e) ∙ e) r)
+
+  -- no run has used more bytes than it was given
+  pub run-next-le : (s : State) (xs : List ℕ) → Stands job s → run job s xs .next ≤ s .next + length xs
+  unfolding run
+  run-next-le s [] h = omega arith
+  run-next-le s (x ∷ xs) h =
+      let one : step job s x .state .next ≤ suc (s .next) =
+      step-cases (λ (t : Turn). t .state .next ≤ suc (s .next)) s x h (λ r t. omega (arith, t .next)) (omega arith) in
+      omega (arith, one, run-next-le (step job s x .state) xs (step-stands s x h))
+
+  -- how a run has ended
+  pub reached-ended : (s : State) {code place : ℕ} → Reached job s → s .phase ≡ Stopped code place → Ended job s code
+  reached-ended s r e = subst (λ (p : Phase). Meant job p s) e (reached-stands s r .meant)
 
   -- a run over as many bytes as the file has stopped
   pub whole-stopped : (xs : List ℕ) → length xs ≡ job .fileLength

@@ -13,8 +13,55 @@ use Rattle.octets.specs.Parts.{part}
 use Rattle.answers.specs.Rules.{pick, Rule, rule, firstBroken}
 use Rattle.board.specs.Board.{Board}
 use Rattle.board.specs.Cpuid.{lookup}
-use Rattle.machine.specs.Commands.{command, commandOf, dataLength, address, fillCount, pattern, judgedBytes, hasZero, missing, passes, headerRules, rangeRules, entryRules, checkRules}
-use Rattle.machine.specs.Machine.{Job, State, Store, Turn, react, step, run, trace, still, kept, used, turnedTo, stopped, tallied, awaiting, withStored, withEntry, withCommand, begins, finished, judged, gathered, passed, headerRead, writeRead, fillRead, entryRead, checkRead, parametersRead, storesFrom, unlessLast}
+use Rattle.machine.specs.Commands.{
+  command,
+  commandOf,
+  dataLength,
+  address,
+  fillCount,
+  pattern,
+  judgedBytes,
+  hasZero,
+  missing,
+  passes,
+  headerRules,
+  rangeRules,
+  entryRules,
+  checkRules,
+}
+use Rattle.machine.specs.Machine.{
+  Job,
+  State,
+  Store,
+  Turn,
+  react,
+  step,
+  run,
+  trace,
+  still,
+  kept,
+  used,
+  turnedTo,
+  stopped,
+  tallied,
+  awaiting,
+  withStored,
+  withEntry,
+  withCommand,
+  begins,
+  finished,
+  judged,
+  gathered,
+  passed,
+  headerRead,
+  writeRead,
+  fillRead,
+  entryRead,
+  checkRead,
+  parametersRead,
+  storesFrom,
+  unlessLast,
+}
 use Rattle.machine.specs.declared.Command.{Command}
 use Rattle.machine.specs.declared.Command.the-variants.{Write, Fill, Entry, Check, Skip, Unknown}
 use Rattle.machine.specs.declared.Phase.{Phase}

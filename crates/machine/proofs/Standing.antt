@@ -17,8 +17,51 @@ use Rattle.board.specs.Board.{Board}
 use Rattle.board.specs.Map.{Region, end, uncovered, ram, reachable}
 use Rattle.board.proofs.MapLaws.{ram-empty}
 use Rattle.machine.proofs.MemoryLaws.{length-storesFrom}
-use Rattle.machine.specs.Commands.{command, commandOf, dataLength, address, fillCount, pattern, judgedBytes, unknown, wrongLength, headerRules, rangeRules, entryRules, checkRules}
-use Rattle.machine.specs.Machine.{Job, State, Store, Turn, react, step, still, kept, used, turnedTo, stopped, tallied, withStored, withEntry, withCommand, begins, finished, judged, magicRead, passed, headerRead, writeRead, fillRead, entryRead, checkRead, parametersRead, storesFrom, begun}
+use Rattle.machine.specs.Commands.{
+  command,
+  commandOf,
+  dataLength,
+  address,
+  fillCount,
+  pattern,
+  judgedBytes,
+  unknown,
+  wrongLength,
+  headerRules,
+  rangeRules,
+  entryRules,
+  checkRules,
+}
+use Rattle.machine.specs.Machine.{
+  Job,
+  State,
+  Store,
+  Turn,
+  react,
+  step,
+  still,
+  kept,
+  used,
+  turnedTo,
+  stopped,
+  tallied,
+  withStored,
+  withEntry,
+  withCommand,
+  begins,
+  finished,
+  judged,
+  magicRead,
+  passed,
+  headerRead,
+  writeRead,
+  fillRead,
+  entryRead,
+  checkRead,
+  parametersRead,
+  storesFrom,
+  begun,
+}
 use Rattle.machine.specs.declared.Command.{Command}
 use Rattle.machine.specs.declared.Command.the-variants.{Write, Fill, Entry, Check, Skip, Unknown}
 use Rattle.machine.specs.declared.Tally.{Tally}

@@ -24,10 +24,10 @@ use Rattle.machine.specs.declared.Phase.the-variants.{Magic, Header, Par
 use Rattle.machine.proofs.BareLaws.{bareAnswer, bareStores, bare-is, bare-cases, bare-taken, bare-lent}
 use Rattle.machine.proofs.History.{commandsDone, LastEntry, run-account, last-entry}
 use Rattle.machine.proofs.MemoryLaws.{byte-kept, byte-stored}
-use Rattle.machine.proofs.ReachedLaws.{run-stands, run-stored, trace-inside}
+use Rattle.machine.proofs.ReachedLaws.{run-next-le, reached-ended, run-stored, trace-inside}
 use Rattle.machine.proofs.Reserved.{Alike, withHeld, alike-run, alike-length}
 use Rattle.machine.proofs.Runs.{trace-append, trace-stopped}
-use Rattle.machine.proofs.Standing.{Meant, Ended, at-end, at-magic, at-command, begun-stands, pick-cases}
+use Rattle.machine.proofs.Standing.{Ended, at-end, at-magic, at-command, begun-stands, pick-cases}
 
 -- ---- the order of stores
 
@@ -92,7 +92,7 @@ stored-counts-stores job bytes =
 pub done-means : (job : Job) (bytes : List ℕ) {place : ℕ} → run job (begun job) bytes .phase ≡ Stopped 0 place
     → (run job (begun job) bytes .next ≡ job .fileLength)
     × ((c : List ℕ) × LastEntry (commandsDone job (begun job) bytes) c × (run job (begun job) bytes .tally .entry ≡ address c))
-done-means job bytes {place} e = ended (subst (λ (p : Phase). Meant job p end) e (run-stands job (begun job) bytes (begun-stands job) .meant))
+done-means job bytes {place} e = ended (reached-ended job end (bytes, refl) e)
   where
     end : State
     end = run job (begun job) bytes
@@ -106,6 +106,12 @@ done-means job bytes {place} e = ended (subst (λ (p : Phase). Meant job p end) 
         (n, (c, l, account .entry ∙ a))
     ended (at-magic q n) = absurd (omega (arith, q))
     ended (at-command l u) = absurd (omega (arith, l))
+
+-- Done is not said before as many bytes have come as the file has.
+pub done-needs-all-bytes : (job : Job) (bytes : List ℕ) {place : ℕ} → run job (begun job) bytes .phase ≡ Stopped 0 place
+    → job .fileLength ≤ length bytes
+done-needs-all-bytes job bytes e =
+    omega (arith, done-means job bytes e .0, run-next-le job (begun job) bytes (begun-stands job))
 
 -- ---- running bare
 
