@@ -11,13 +11,13 @@ use Rattle.answers.specs.Answers.{Outcome, refused}
 use Rattle.answers.specs.Rules.{pick, firstBroken}
 use Rattle.hashes.specs.Compression as compression
 use Rattle.hashes.specs.Digests as digests
-use Rattle.hashes.specs.Padding as padding
+use Rattle.hashes.specs.Padding as messages
 use Rattle.hashes.specs.Tables as tables
 use Rattle.chain.specs.Blocks.{blockCode, blockOf, proved, fileUpTo}
 use Rattle.chain.specs.Hashsum.{hashsum, sumLength, anyUnknown}
 use Rattle.chain.specs.Header.{Header, headerOf, headerBytes, idBytes}
 use Rattle.chain.specs.Open.{openRules, openAnswer, opened}
-use Rattle.chain.specs.Pack.{Order, packRules, packed}
+use Rattle.chain.specs.Pack.{Order, blocks, padding, packRules, packedHeader, packed}
 use Rattle.chain.proofs.OpenLaws.{outcome, opened-is, given}
 
 -- ---- the code, computed so that blocks are looked at only where they must be
@@ -127,7 +127,7 @@ imageOf d block = headerBytes d ++ (0 ∷ []) ++ block
 abbrev sound : List ℕ
 sound = imageOf (sealed 1 goodRoot) good
 
-pub openCases : List OpenCase
+abbrev pub openCases : List OpenCase
 openCases =
     opening sound 68 1 1
     ∷ opening sound 68 0 1
@@ -147,7 +147,7 @@ openCases =
     ∷ []
 
 quick-cases : map quickCode openCases ≡ 0 ∷ 1 ∷ 4 ∷ 5 ∷ 6 ∷ 7 ∷ 8 ∷ 9 ∷ 10 ∷ 11 ∷ 12 ∷ 13 ∷ 14 ∷ 15 ∷ 29 ∷ []
-unfolding openCases headerBytes idBytes littleBytes little same allZero proved hashsum sumLength anyUnknown digests.digest digests.digestLength digests.algorithms digests.algorithmOf compression.sha2 compression.joined compression.hashed compression.afterBlocks compression.compressed compression.afterRounds compression.round compression.summed compression.scheduled compression.withNext padding.padded padding.wordsAt tables.K256 tables.initial256
+unfolding headerBytes idBytes littleBytes little same allZero proved hashsum sumLength anyUnknown digests.digest digests.digestLength digests.algorithms digests.algorithmOf compression.sha2 compression.joined compression.hashed compression.afterBlocks compression.compressed compression.afterRounds compression.round compression.summed compression.scheduled compression.withNext messages.padded messages.wordsAt tables.K256 tables.initial256
 quick-cases = refl
 
 pub open-cases : map openCode openCases ≡ 0 ∷ 1 ∷ 4 ∷ 5 ∷ 6 ∷ 7 ∷ 8 ∷ 9 ∷ 10 ∷ 11 ∷ 12 ∷ 13 ∷ 14 ∷ 15 ∷ 29 ∷ []
@@ -180,7 +180,7 @@ packing file id blockSize signature output =
       output = replicate output 0;
     }
 
-pub packCases : List PackCase
+abbrev pub packCases : List PackCase
 packCases =
     packing (7 ∷ []) 2 34 1 103
     ∷ packing (7 ∷ []) 2 34 0 102
@@ -191,8 +191,32 @@ packCases =
     ∷ []
 
 ruled-cases : map ruled packCases ≡ 0 ∷ 1 ∷ 6 ∷ 11 ∷ 28 ∷ 29 ∷ []
-unfolding packCases sumLength anyUnknown digests.digestLength digests.algorithms digests.algorithmOf
+unfolding sumLength anyUnknown digests.digestLength digests.algorithms digests.algorithmOf
 ruled-cases = refl
 
 pub pack-cases : map packCode packCases ≡ 0 ∷ 1 ∷ 6 ∷ 11 ∷ 28 ∷ 29 ∷ []
 pack-cases = all-by-rules packCases ∙ ruled-cases
+
+-- ---- the cases of document 01, "On both sides of each line", that packing decides
+
+abbrev orderBy : List ℕ → ℕ → ℕ → Order
+orderBy ids blockSize file = record { file = replicate file 0; ids = ids; blockSize = blockSize; signature = 1 }
+
+abbrev pub documentOrders : List Order
+documentOrders =
+    -- SHA2-256 alone, blocks of 96: files of 61, 64 and 65 bytes
+    orderBy (2 ∷ 0 ∷ 0 ∷ 0 ∷ []) 96 61
+    ∷ orderBy (2 ∷ 0 ∷ 0 ∷ 0 ∷ []) 96 64
+    ∷ orderBy (2 ∷ 0 ∷ 0 ∷ 0 ∷ []) 96 65
+    -- four SHA2-512
+    ∷ orderBy (4 ∷ 4 ∷ 4 ∷ 4 ∷ []) 257 1
+    ∷ []
+
+-- header size, blocks and padding
+abbrev pub sizesOf : Order → List ℕ
+sizesOf p = packedHeader p .headerSize ∷ blocks p ∷ padding p ∷ []
+
+pub document-sizes : map sizesOf documentOrders
+    ≡ (68 ∷ 1 ∷ 3 ∷ []) ∷ (68 ∷ 1 ∷ 0 ∷ []) ∷ (68 ∷ 2 ∷ 63 ∷ []) ∷ (292 ∷ 1 ∷ 0 ∷ []) ∷ []
+unfolding sumLength digests.digestLength digests.algorithms digests.algorithmOf
+document-sizes = refl

@@ -15,7 +15,7 @@ use Rattle.chain.specs.Header.{Header, headerOf}
 use Rattle.chain.specs.Open.{opened}
 use Rattle.chain.specs.Pack.{Order, Packed, packRules, image, packed}
 use Rattle.chain.proofs.BlockLaws.{proved-le, file-agrees, file-begins}
-use Rattle.chain.proofs.CodeCases.{openCode, openCases, open-cases, packCode, packCases, pack-cases}
+use Rattle.chain.proofs.CodeCases.{openCode, openCases, open-cases, packCode, packCases, pack-cases, sizesOf, documentOrders, document-sizes}
 use Rattle.chain.proofs.GivenCodes.{among, code-passes, open-code, unchanged, first-part, packed-unchanged, packed-image, packed-passes-rules}
 use Rattle.chain.proofs.OpenLaws.{ButSignature, given, doneAnswer, opened-same}
 use Rattle.chain.proofs.OpenedPacks.{cleared, packed-opened}
@@ -150,3 +150,8 @@ pub pack-determined : (p : Order) (output : List ℕ) (x y : Packed) → x ≡ p
 pack-determined p output x y e f =
     let g : x ≡ y = e ∙ sym f in
     (ap (λ (o : Packed). o .code) g, ap (λ (o : Packed). o .output) g)
+
+-- "On both sides of each line": header size, blocks and padding of the cases that packing decides
+pub document-cases : map sizesOf documentOrders
+    ≡ (68 ∷ 1 ∷ 3 ∷ []) ∷ (68 ∷ 1 ∷ 0 ∷ []) ∷ (68 ∷ 2 ∷ 63 ∷ []) ∷ (292 ∷ 1 ∷ 0 ∷ []) ∷ []
+document-cases = document-sizes
