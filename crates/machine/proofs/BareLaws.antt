@@ -94,20 +94,23 @@ bare-taken file map table mode memory h =
     (all-hold-zero (mapRules map memory)
     (m .0, (m .1 .0, (m .1 .1 .0, (m .1 .1 .1 .0, (m .1 .1 .1 .1 .0, (m .1 .1 .1 .1 .1 .0, tt)))))))
 
--- with a record of 40 bytes memory is left as the stores make it
-pub bare-lent : (file map table : List ℕ) (mode : ℕ) (memory held : List ℕ) → length held ≡ 40
-    → runBare file map table mode memory held .lent
-    ≡ applied (regions map) memory (bareStores file map table mode (length memory))
-bare-lent file map table mode memory held fits =
-    ap (λ (o : Outcome). o .lent) (bare-is file map table mode memory held)
-    ∙ ap (λ (b : Bool). pick b (whole true) (whole false) .lent) (eq-eqb (length held) 40 fits)
+-- with a record of 40 bytes: the code returned, the record, and memory as the stores make it
+pub bare-answered : (file map table : List ℕ) (mode : ℕ) (memory held : List ℕ) → length held ≡ 40
+    → runBare file map table mode memory held
+    ≡ record {
+      code = bareAnswer file map table mode (length memory) .code;
+      answer = recordBytes (bareAnswer file map table mode (length memory));
+      lent = applied (regions map) memory (bareStores file map table mode (length memory));
+    }
+bare-answered file map table mode memory held fits =
+    bare-is file map table mode memory held
+    ∙ ap (λ (b : Bool). pick b whole (record { code = 1; answer = held; lent = memory })) (eq-eqb (length held) 40 fits)
   where
-    whole : Bool → Outcome
-    whole true =
+    whole : Outcome
+    whole =
         let a = bareAnswer file map table mode (length memory) in
         record {
           code = a .code;
           answer = recordBytes a;
           lent = applied (regions map) memory (bareStores file map table mode (length memory));
         }
-    whole false = record { code = 1; answer = held; lent = memory }

@@ -21,7 +21,7 @@ use Rattle.machine.specs.Machine.{Job, State, Store, begun, run, trace, 
 use Rattle.machine.specs.Memory.{applied}
 use Rattle.machine.specs.declared.Phase.{Phase}
 use Rattle.machine.specs.declared.Phase.the-variants.{Magic, Header, Parameters, Storing, Skipping, Stopped}
-use Rattle.machine.proofs.BareLaws.{bareAnswer, bareStores, bare-is, bare-cases, bare-taken, bare-lent}
+use Rattle.machine.proofs.BareLaws.{bareAnswer, bareStores, bare-is, bare-cases, bare-taken, bare-answered}
 use Rattle.machine.proofs.History.{commandsDone, LastEntry, run-account, last-entry}
 use Rattle.machine.proofs.MemoryLaws.{byte-kept, byte-stored}
 use Rattle.machine.proofs.ReachedLaws.{run-next-le, reached-ended, run-stored, trace-inside}
@@ -160,7 +160,7 @@ module _ (file map table : List ℕ) (mode : ℕ) where
       → getD (runBare file map table mode memory held .lent) (offset (regions map) a) 0 ≡ getD memory (offset (regions map) a) 0
   unfolding applied
   bare-byte-unchanged memory held a fits c none =
-      ap (λ (m : List ℕ). getD m (offset (regions map) a) 0) (bare-lent file map table mode memory held fits)
+      ap (λ (o : Outcome). getD (o .lent) (offset (regions map) a) 0) (bare-answered file map table mode memory held fits)
       ∙ bare-cases file map table mode
       (λ (b : Answer) (xs : List Store). ((x : Store) → List·Memᴰ x xs → x .address ≢ a)
       → getD (applied (regions map) memory xs) (offset (regions map) a) 0 ≡ getD memory (offset (regions map) a) 0)
@@ -171,7 +171,7 @@ module _ (file map table : List ℕ) (mode : ℕ) where
       → bareStores file map table mode (length memory) ≡ xs ++ (x ∷ ys) → ((y : Store) → List·Memᴰ y ys → y .address ≢ x .address)
       → getD (runBare file map table mode memory held .lent) (offset (regions map) (x .address)) 0 ≡ x .byte
   bare-byte-of-last-store memory held xs x ys fits e last =
-      ap (λ (m : List ℕ). getD m (offset (regions map) (x .address)) 0) (bare-lent file map table mode memory held fits)
+      ap (λ (o : Outcome). getD (o .lent) (offset (regions map) (x .address)) 0) (bare-answered file map table mode memory held fits)
       ∙ bare-cases file map table mode
       (λ (b : Answer) (zs : List Store). zs ≡ xs ++ (x ∷ ys) → getD (applied (regions map) memory zs) (offset (regions map) (x .address)) 0 ≡ x .byte)
       (length memory) (λ code l u q. absurd (omega (arith, ap length q ∙ length-append xs (x ∷ ys))))
