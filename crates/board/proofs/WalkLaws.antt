@@ -121,22 +121,20 @@ leaves-none table i h = records-end (leaf table) i (length table / 24) h
 leaves-next : (table : List ℕ) (i : ℕ) → i < length table / 24 → leavesLeft table i ≡ leaf table i ∷ leavesLeft table (i + 1)
 leaves-next table i h = records-next (leaf table) i (length table / 24) h
 
-module _ (table : List ℕ) (i eax ecx k : ℕ) (h : i < length table / 24) where
-  -- whether record i has both inputs, as the code tests it
-  abbrev pub hasInputs : Bool
-  hasInputs = pick (eqb (leaf table i .eaxInput) eax) (eqb (leaf table i .ecxInput) ecx) false
-
-  pub lookup-here : hasInputs ≡ true → lookup (leavesLeft table i) eax ecx k ≡ Word (register k (leaf table i))
+-- record i, where t is whether it has both inputs
+module _ (table : List ℕ) (i eax ecx k : ℕ) (h : i < length table / 24) (t : Bool)
+    (has : t ≡ pick (eqb (leaf table i .eaxInput) eax) (eqb (leaf table i .ecxInput) ecx) false) where
+  pub lookup-here : t ≡ true → lookup (leavesLeft table i) eax ecx k ≡ Word (register k (leaf table i))
   lookup-here e =
-      let t = pick-true _ _ e in
+      let p = pick-true _ _ (sym has ∙ e) in
       ap (λ (ls : List Leaf). lookup ls eax ecx k) (leaves-next table i h)
-      ∙ lookup-hit (leaf table i) (leavesLeft table (i + 1)) eax ecx k (eqb-true _ _ (t .0), eqb-true _ _ (t .1))
+      ∙ lookup-hit (leaf table i) (leavesLeft table (i + 1)) eax ecx k (eqb-true _ _ (p .0), eqb-true _ _ (p .1))
 
-  pub lookup-on : hasInputs ≡ false → lookup (leavesLeft table i) eax ecx k ≡ lookup (leavesLeft table (i + 1)) eax ecx k
+  pub lookup-on : t ≡ false → lookup (leavesLeft table i) eax ecx k ≡ lookup (leavesLeft table (i + 1)) eax ecx k
   lookup-on e =
       ap (λ (ls : List Leaf). lookup ls eax ecx k) (leaves-next table i h)
       ∙ lookup-miss (leaf table i) (leavesLeft table (i + 1)) eax ecx k
-      (λ p. false≢true (sym e ∙ pick-eq _ _ _ _ (p .0) ∙ eq-eqb _ _ (p .1)))
+      (λ p. false≢true (sym e ∙ has ∙ pick-eq _ _ _ _ (p .0) ∙ eq-eqb _ _ (p .1)))
 
 -- record i and the next decide, then those from the next on
 pub ascending-on : (table : List ℕ) (i : ℕ) → i + 1 < length table / 24

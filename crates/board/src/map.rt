@@ -1,6 +1,6 @@
 ghost use mathlib.Core.Bool.{true};
 ghost use mathlib.Core.Path.{_≡_};
-ghost use Prim.Native.Nat.{_+_, _*_, _/_, _≤_, _<_, max};
+ghost use Prim.Native.Nat.{_/_, _<_, max};
 ghost use denote.Ref.{now};
 ghost use lib.ListN.{length};
 ghost use Rattle.answers.specs.Rules.{firstBroken};

@@ -1,5 +1,5 @@
 -- The five numbers stand one behind the other and fill the record.
-use mathlib.Core.Path.{_≡_, refl, _∙_}
+use mathlib.Core.Path.{refl}
 use borrow.Author.Needs.{needs}
 use Rattle.answers.proofs.RecordLaws.{record-written}
 use Rattle.answers.proofs.write_answer.Statement.{statement}

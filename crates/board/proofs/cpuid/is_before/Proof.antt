@@ -1,5 +1,5 @@
 -- Each return has the test that led there.
-use mathlib.Core.Path.{_≡_, sym, ap₂, _∙_}
+use mathlib.Core.Path.{sym, ap₂, _∙_}
 use lib.Dec.{ltb}
 use borrow.Author.Needs.{needs}
 use Rattle.board.proofs.TestLaws.{pick-eq, pick-ne}

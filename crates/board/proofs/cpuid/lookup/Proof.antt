@@ -28,7 +28,8 @@ returns c =
     ap Word (c .result .ensures)
     ∙ sym
     (l .inv .1
-    ∙ lookup-here (a .table .now) (l .i) (a .eax) (a .ecx) (a .register) (omega arith) (sym (d .has-inputs .ensures) ∙ c .before .if1 .taken))
+    ∙ lookup-here (a .table .now) (l .i) (a .eax) (a .ecx) (a .register) (omega arith) (d .has-inputs .result) (d .has-inputs .ensures)
+    (c .before .if1 .taken))
 
 loop-again : tie.Need-loop-again Inv-loop μ-loop
 loop-again c =
@@ -36,7 +37,8 @@ loop-again c =
     let l = d .before .before .loop in
     let a = d .before .before .before .before .args in (
       omega arith,
-      l .inv .1 ∙ lookup-on (a .table .now) (l .i) (a .eax) (a .ecx) (a .register) (omega arith) (sym (d .has-inputs .ensures) ∙ c .if1 .left),
+      l .inv .1
+          ∙ lookup-on (a .table .now) (l .i) (a .eax) (a .ecx) (a .register) (omega arith) (d .has-inputs .result) (d .has-inputs .ensures) (c .if1 .left),
     )
 
 returns-2 : tie.Need-returns-2 Inv-loop μ-loop

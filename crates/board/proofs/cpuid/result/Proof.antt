@@ -1,5 +1,5 @@
 -- Each return has the tests that led there.
-use mathlib.Core.Path.{_≡_, sym, _∙_}
+use mathlib.Core.Path.{sym, _∙_}
 use borrow.Author.Needs.{needs}
 use Rattle.board.proofs.TestLaws.{pick-eq, pick-ne}
 use Rattle.board.proofs.cpuid.result.Statement.{statement}

@@ -1,6 +1,6 @@
 -- Each refusal contradicts one rule of a taken table.
 use mathlib.Core.Bool.{false≢true}
-use mathlib.Core.Path.{_≡_, sym, _∙_}
+use mathlib.Core.Path.{sym, _∙_}
 use Prim.Native.Nat.{_/_}
 use native.Mathlib.Omega.{arith}
 use lib.ListN.{length}

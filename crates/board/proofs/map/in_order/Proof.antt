@@ -3,7 +3,7 @@ use mathlib.Core.Bool.{false}
 use mathlib.Core.Path.{_≡_, sym, ap, _∙_}
 use Prim.Native.Nat.{_+_, _-_, _^_, _≤_}
 use native.Mathlib.Omega.{arith}
-use Rattle.board.specs.Map.{region, end, regions, ordered}
+use Rattle.board.specs.Map.{regions, ordered}
 use Rattle.board.proofs.WalkLaws.{left, left-all, left-none, ordered-on, ordered-stops}
 use Rattle.board.proofs.map.in_order.Statement.{statement}
 use Rattle.board.proofs.map.in_order.Tie as tie
@@ -14,14 +14,18 @@ Inv-loop map n low₀ i₀ low i = (i ≤ n) × (ordered 0 (regions map) ≡ ord
 abbrev μ-loop : tie.MeasureT-loop
 μ-loop map n low₀ i₀ low i = n - i
 
--- region i breaks a rule
+-- region i breaks a rule, as the code has its numbers
 stops : (c : tie.After-size Inv-loop μ-loop)
-    → (let r = region (c .before .before .before .before .before .args .map .now) (c .before .before .before .loop .i) in
-    1 ≤ r .size → c .before .before .before .loop .low ≤ r .base → end r ≤ 2 ^ 52 → ⊥)
+    → (1 ≤ c .size .result → c .before .before .before .loop .low ≤ c .before .base .result → c .before .base .result + c .size .result ≤ 2 ^ 52 → ⊥)
     → false ≡ ordered 0 (regions (c .before .before .before .before .before .args .map .now))
 stops c f =
     let l = c .before .before .before .loop in
-    sym (l .inv .1 ∙ ordered-stops (c .before .before .before .before .before .args .map .now) (l .i) (omega arith) (l .low) f)
+    let b = c .before .base .ensures in
+    let s = c .size .ensures in
+    sym
+    (l .inv .1
+    ∙ ordered-stops (c .before .before .before .before .before .args .map .now) (l .i) (c .before .before .loop-test .taken) (l .low)
+    (λ p q r. f (omega arith) (omega arith) (omega arith)))
 
 loop-again : tie.Need-loop-again Inv-loop μ-loop
 loop-again c =
@@ -44,6 +48,7 @@ pub in-order-spec : {M : Type 1} → statement M
 in-order-spec =
     tie.close
     (tie.spec Inv-loop μ-loop (λ c. (omega arith, ap (ordered 0) (left-all (c .before .args .map .now)))) (λ c κs. omega arith) (λ c κs. omega arith)
-    (λ c. stops (c .before) (λ p q r. omega arith)) (λ c. stops (c .before .before) (λ p q r. omega arith))
-    (λ c. stops (c .before .before .before) (λ p q r. omega arith)) (λ c. stops (c .before .before .before .before) (λ p q r. omega arith))
-    (λ c. omega arith) (λ c. omega arith) (λ c. omega arith) loop-again returns-5)
+    (λ c. let t = c .if1 .taken in stops (c .before) (λ p q r. omega arith)) (λ c. let t = c .if2 .taken in stops (c .before .before) (λ p q r. omega arith))
+    (λ c. let t = c .if3 .taken in stops (c .before .before .before) (λ p q r. omega arith))
+    (λ c. let t = c .if4 .taken in stops (c .before .before .before .before) (λ p q r. omega arith)) (λ c. omega arith) (λ c. omega arith)
+    (λ c. omega arith) loop-again returns-5)

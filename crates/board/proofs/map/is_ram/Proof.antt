@@ -1,5 +1,4 @@
 -- The first uncovered address is at or above a, and what lies between is compared with n.
-use mathlib.Core.Path.{_≡_}
 use Prim.Native.Nat.{_+_, _-_}
 use native.Mathlib.Omega.{arith}
 use borrow.Author.Needs.{needs}

@@ -1,6 +1,6 @@
 -- Each refusal contradicts one rule of a taken map.
 use mathlib.Core.Bool.{false≢true}
-use mathlib.Core.Path.{_≡_, sym, _∙_}
+use mathlib.Core.Path.{sym, _∙_}
 use native.Mathlib.Omega.{arith}
 use borrow.Author.Needs.{needs}
 use borrow.Author.Tests.{not-true, not-false}

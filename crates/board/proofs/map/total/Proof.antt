@@ -1,5 +1,5 @@
 -- The sum so far and the lengths from number i on are the sum of all, which regions in order keep small.
-use mathlib.Core.Path.{_≡_, sym, ap, _∙_}
+use mathlib.Core.Path.{_≡_, ap}
 use Prim.Native.Nat.{_+_, _-_, _≤_}
 use native.Mathlib.Omega.{arith}
 use Rattle.board.specs.Map.{regions, total}
