@@ -41,31 +41,31 @@ code-passes f (r ∷ rs) z t =
     go false p q = q
 
 module _ (image approved : List ℕ) (signature : ℕ) (output held : List ℕ) where
-  abbrev d : Header
+  abbrev pub d : Header
   d = headerOf approved
 
-  abbrev block : ℕ → List ℕ
+  abbrev pub block : ℕ → List ℕ
   block = blockOf image approved
 
-  abbrev m : ℕ
+  abbrev pub m : ℕ
   m = proved d block (d .count)
 
-  abbrev rules : List Rule
+  abbrev pub rules : List Rule
   rules = openRules image approved signature (length output)
 
-  abbrev o : Outcome
+  abbrev pub o : Outcome
   o = opened image approved signature output held
 
-  abbrev OpenWay : Type 0
+  abbrev pub OpenWay : Type 0
   OpenWay = Way (firstBroken rules) d block output held o
 
-  open-way : OpenWay
+  pub open-way : OpenWay
   open-way =
       subst (Way (firstBroken rules) d block output held) (sym (opened-is image approved signature output held))
       (way (firstBroken rules) d block output held)
 
   -- the code of a block that was looked at passes what 0, 13, 14 and 15 do
-  block-code : (f : ℕ → Bool) → T (f 0) → T (f 13 && (f 14 && (f 15 && true)))
+  pub block-code : (f : ℕ → Bool) → T (f 0) → T (f 13 && (f 14 && (f 15 && true)))
       → T (f (pick (eqb m (d .count)) 0 (blockCode d block m)))
   block-code f z t = go (eqb m (d .count))
     where

@@ -8,6 +8,7 @@ pub mod OpenedPacks
 pub mod PackLaws
 pub mod PackedOpens
 pub mod RuleLaws
+pub mod SignatureLaws
 pub mod StreamLaws
 pub mod Theorems
 pub mod WritingLaws

@@ -1,5 +1,6 @@
 -- What the block chain is held to, each under the sentence that it carries (document 01).
 use mathlib.Core.Path.{_≡_, refl, sym, ap, ap₂, subst, _∙_}
+use mathlib.Core.Bool.{not}
 use mathlib.Core.List.{List, [], _∷_, _++_, map}
 use mathlib.Core.Logic.{_⊎_, inl, inr, ⊎-elim}
 use Prim.Native.Nat.{ℕ, suc, _+_, _≤_, _<_}
@@ -7,12 +8,12 @@ use native.Mathlib.Nat.{zero-add}
 use native.Mathlib.Omega.{arith}
 use lib.Dec.{T}
 use lib.ListN.{length, take, drop}
-use Rattle.octets.specs.Parts.{Octets}
+use Rattle.octets.specs.Parts.{part, Octets}
 use Rattle.answers.specs.Answers.{Outcome}
 use Rattle.chain.specs.Blocks.{blockOf, proved, fileUpTo}
 use Rattle.chain.specs.Hashsum.{sumLength}
 use Rattle.chain.specs.Header.{Header, headerOf}
-use Rattle.chain.specs.Open.{opened}
+use Rattle.chain.specs.Open.{opened, signatureField}
 use Rattle.chain.specs.Pack.{Order, Packed, packRules, image, packed}
 use Rattle.chain.proofs.BlockLaws.{proved-le, file-agrees, file-begins}
 use Rattle.chain.proofs.CodeCases.{openCode, openCases, open-cases, packCode, packCases, pack-cases, sizesOf, documentOrders, document-sizes}
@@ -21,6 +22,7 @@ use Rattle.chain.proofs.OpenLaws.{ButSignature, given, doneAnswer, open
 use Rattle.chain.proofs.OpenedPacks.{cleared, packed-opened}
 use Rattle.chain.proofs.PackLaws.{packable}
 use Rattle.chain.proofs.PackedOpens.{header-first, opened-packed}
+use Rattle.chain.proofs.SignatureLaws.{field-refused, field-given}
 use Rattle.chain.proofs.StreamLaws.{Collision, streams}
 
 -- 1. Opening what the packer made returns the file: for every file, IDs and sizes that pack accepts, with the packed
@@ -150,6 +152,19 @@ pub pack-determined : (p : Order) (output : List ℕ) (x y : Packed) → x ≡ p
 pack-determined p output x y e f =
     let g : x ≡ y = e ∙ sym f in
     (ap (λ (o : Packed). o .code) g, ap (λ (o : Packed). o .output) g)
+
+-- 8. The signature field of an image as a part of it: where open would give 1 or 4 to 12 the part is empty;
+pub signature-empty : (image approved : List ℕ) (signature : ℕ) (output held : List ℕ) → length held ≡ 40
+    → T (among (1 ∷ 4 ∷ 5 ∷ 6 ∷ 7 ∷ 8 ∷ 9 ∷ 10 ∷ 11 ∷ 12 ∷ []) (opened image approved signature output held .code))
+    → signatureField image approved signature ≡ []
+signature-empty = field-refused
+
+-- elsewhere it is what stands between header and first block, of the expected length.
+pub signature-given : (image approved : List ℕ) (signature : ℕ) (output held : List ℕ) → length held ≡ 40
+    → T (not (among (1 ∷ 4 ∷ 5 ∷ 6 ∷ 7 ∷ 8 ∷ 9 ∷ 10 ∷ 11 ∷ 12 ∷ []) (opened image approved signature output held .code)))
+    → (signatureField image approved signature ≡ part image (length approved) signature)
+    × (length (signatureField image approved signature) ≡ signature)
+signature-given = field-given
 
 -- "On both sides of each line": header size, blocks and padding of the cases that packing decides
 pub document-cases : map sizesOf documentOrders
