@@ -39,23 +39,25 @@ header o = headerOf (o .approved)
 abbrev pub block : Offer → ℕ → List ℕ
 block o = blockOf (o .image) (o .approved)
 
--- how many blocks are proved
-abbrev pub provedBlocks : Offer → ℕ
-provedBlocks o = proved (header o) (block o) (header o .count)
-
--- a byte of the file may be used only when its block is proved
-abbrev pub provedFile : Offer → List ℕ
-provedFile o = fileUpTo (header o) (block o) (provedBlocks o)
-
 abbrev pub job : Offer → Job
 job o = jobOf (fileLength (header o)) (o .map) (o .table) (o .mode)
 
--- where the machine stands after the proved bytes, and the stores that they caused
+-- after the first k blocks: where the machine stands, and the stores that they caused
+abbrev pub stateAfter : Offer → ℕ → State
+stateAfter o k = run (job o) (begun (job o)) (fileUpTo (header o) (block o) k)
+
+abbrev pub storesAfter : Offer → ℕ → List Store
+storesAfter o k = trace (job o) (begun (job o)) (fileUpTo (header o) (block o) k)
+
+-- a byte of the file may be used only when its block is proved
+abbrev pub provedBlocks : Offer → ℕ
+provedBlocks o = proved (header o) (block o) (header o .count)
+
 abbrev pub ended : Offer → State
-ended o = run (job o) (begun (job o)) (provedFile o)
+ended o = stateAfter o (provedBlocks o)
 
 abbrev pub stores : Offer → List Store
-stores o = trace (job o) (begun (job o)) (provedFile o)
+stores o = storesAfter o (provedBlocks o)
 
 -- the machine's stop; where it has not stopped, the first bad block's code and place, with the counts as they stand
 abbrev pub loadAnswer : Offer → Answer
