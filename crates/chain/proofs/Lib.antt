@@ -1,8 +1,10 @@
 pub mod BlockLaws
 pub mod CodeCases
+pub mod CodeLaws
 pub mod GivenCodes
 pub mod HashsumLaws
 pub mod HeaderLaws
+pub mod JoinLaws
 pub mod OpenLaws
 pub mod OpenedPacks
 pub mod PackLaws

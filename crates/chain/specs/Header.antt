@@ -62,6 +62,14 @@ fileLength d = d .count * dataLength d - d .padding
 abbrev pub blockSizeRules : ℕ → ℕ → List Rule
 blockSizeRules size sum = rule 11 (leb size sum) ∷ rule 11 (ltb 1048576 size) ∷ []
 
+-- 11: block count 0; the block size; padding at least the block data length
+abbrev pub countRules : Header → List Rule
+countRules d =
+    rule 11 (eqb (d .count) 0)
+    ∷ blockSizeRules (d .blockSize) (d .hashsumLength)
+    ++ rule 11 (leb (dataLength d) (d .padding))
+    ∷ []
+
 -- 5 to 11, of an approved header of `size` bytes
 abbrev pub fieldRules : Header → ℕ → ℕ → List Rule
 fieldRules d size expected =
@@ -72,10 +80,7 @@ fieldRules d size expected =
     ∷ rule 8 (not (eqb (d .headerSize) size))
     ∷ rule 9 (not (eqb (d .scheme) 1))
     ∷ rule 10 (not (eqb (d .signature) expected))
-    ∷ rule 11 (eqb (d .count) 0)
-    ∷ blockSizeRules (d .blockSize) (d .hashsumLength)
-    ++ rule 11 (leb (dataLength d) (d .padding))
-    ∷ []
+    ∷ countRules d
 
 -- where the first block begins: the image is header, signature field, blocks
 abbrev pub blocksStart : List ℕ → ℕ

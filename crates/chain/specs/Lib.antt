@@ -1,4 +1,5 @@
 pub mod Blocks
+pub mod Code
 pub mod Hashsum
 pub mod Header
 pub mod Open

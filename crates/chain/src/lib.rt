@@ -1,1 +1,3 @@
-pub fn nothing() {}
+// The block chain: signed header, blocks each proved by the one before, the opener, the packer and the signature field.
+pub mod hashsum;
+pub mod header;

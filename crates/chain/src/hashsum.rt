@@ -1,0 +1,78 @@
+ghost use mathlib.Core.Path.{_≡_};
+ghost use denote.Ref.{now};
+ghost use Rattle.octets.specs.Parts.{same};
+ghost use Rattle.answers.specs.Rules.{firstBroken};
+ghost use Rattle.chain.specs.Code.{joinedOf};
+ghost use Rattle.chain.specs.Hashsum as spec;
+use answers::codes;
+use octets::parts;
+
+// The digests of up to four hashes one behind the other, and zeros behind them.
+pub struct Joined {
+    pub bytes: [u8; 256],
+    pub length: usize,
+}
+
+// The hashsum of a message.
+pub fn hashsum(ids: [u64; 4], message: &[u8]) -> Joined
+    ensures { λ r. ⌜ r ≡ joinedOf ids (now (message .entry)) ⌝ }
+{
+    let mut bytes = [0u8; 256];
+    let mut at = 0usize;
+    for i in 0usize..4 {
+        let d = hashes::digest(ids[i], message);
+        let digest = d.bytes;
+        let n = d.length;
+        parts::copy(&mut bytes, at, &digest[..n]);
+        at = at + n;
+    }
+    Joined { bytes, length: at }
+}
+
+// Whether the hashsum of a message is the expected one: each digest is compared, to its last byte.
+pub fn hashsum_is(ids: [u64; 4], message: &[u8], expected: &[u8]) -> bool
+    ensures { λ r. ⌜ r ≡ same (spec.hashsum ids (now (message .entry))) (now (expected .entry)) ⌝ }
+{
+    let sum = hashsum(ids, message);
+    let bytes = sum.bytes;
+    let n = sum.length;
+    parts::equal(&bytes[..n], expected)
+}
+
+// The length of the hashsums that these IDs give.
+pub fn sum_length(ids: [u64; 4]) -> u64
+    ensures { λ r. ⌜ r ≡ spec.sumLength ids ⌝ }
+{
+    let mut n = 0u64;
+    for i in 0usize..4 {
+        n = n + hashes::digest_length(ids[i]) as u64;
+    }
+    n
+}
+
+// Whether the IDs may be used: 0, or the refusal.
+pub fn id_code(ids: [u64; 4]) -> u64
+    ensures { λ r. ⌜ r ≡ firstBroken (spec.idRules ids) ⌝ }
+{
+    if ids[0] == 0 {
+        return codes::HASH_ID;
+    }
+    if any_unknown(ids) {
+        return codes::HASH_ID;
+    }
+    codes::DONE
+}
+
+fn any_unknown(ids: [u64; 4]) -> bool
+    ensures { λ r. ⌜ r ≡ spec.anyUnknown ids ⌝ }
+{
+    for i in 0usize..4 {
+        let id = ids[i];
+        if id != 0 {
+            if hashes::digest_length(id) == 0 {
+                return true;
+            }
+        }
+    }
+    false
+}
