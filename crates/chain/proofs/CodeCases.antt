@@ -1,24 +1,27 @@
 -- For each code that open and pack can give, an input that gets it: small images with SHA2-256, computed.
-use mathlib.Core.Path.{_≡_, refl, ap, ap₂, _∙_}
+use mathlib.Core.Path.{_≡_, refl, sym, ap, ap₂, _∙_}
 use mathlib.Core.Bool.{Bool, true, false}
 use mathlib.Core.List.{List, [], _∷_, _++_, map}
 use Prim.Native.Nat.{ℕ}
+use native.Mathlib.Omega.{arith}
+use borrow.Author.Tests.{eqb-true, eq-eqb, ne-eqb}
 use lib.Dec.{eqb}
 use lib.ListN.{length, take, replicate}
 use Rattle.octets.specs.Numbers.{little, littleBytes}
 use Rattle.octets.specs.Parts.{put, same, allZero}
-use Rattle.answers.specs.Answers.{Outcome, refused}
+use Rattle.answers.specs.Answers.{Outcome}
 use Rattle.answers.specs.Rules.{pick, firstBroken}
 use Rattle.hashes.specs.Compression as compression
 use Rattle.hashes.specs.Digests as digests
 use Rattle.hashes.specs.Padding as messages
 use Rattle.hashes.specs.Tables as tables
-use Rattle.chain.specs.Blocks.{blockCode, blockOf, proved, fileUpTo}
+use Rattle.chain.specs.Blocks.{blockCode, blockOf, proved}
 use Rattle.chain.specs.Hashsum.{hashsum, sumLength, anyUnknown}
 use Rattle.chain.specs.Header.{Header, headerOf, headerBytes, idBytes}
-use Rattle.chain.specs.Open.{openRules, openAnswer, opened}
+use Rattle.chain.specs.Open.{openRules, opened}
 use Rattle.chain.specs.Pack.{Order, blocks, padding, packRules, packedHeader, packed}
-use Rattle.chain.proofs.OpenLaws.{outcome, opened-is, given}
+use Rattle.chain.proofs.BlockLaws.{Turn, went, stopped, turn}
+use Rattle.chain.proofs.OpenLaws.{outcome, opened-is, Way, unwritten, refusing, proving, way}
 
 -- ---- the code, computed so that blocks are looked at only where they must be
 
@@ -32,36 +35,67 @@ pub record OpenCase : Type 0 where
 abbrev pub openCode : OpenCase → ℕ
 openCode x = opened (x .image) (x .approved) (x .signature) (x .output) (x .held) .code
 
-abbrev quickBy : Bool → Bool → ℕ → (Unit {0} → ℕ) → ℕ
-quickBy false b code blocks = 1
-quickBy true false code blocks = code
-quickBy true true code blocks = blocks tt
+-- one of two, of which the other is not computed
+abbrev either : Bool → (Unit {0} → ℕ) → (Unit {0} → ℕ) → ℕ
+either true f g = f tt
+either false f g = g tt
+
+abbrev blocksCode : Header → (ℕ → List ℕ) → ℕ → ℕ
+blocksCode d block n = pick (eqb (proved d block n) n) 0 (blockCode d block (proved d block n))
+
+-- the code that the blocks get; of a single block, its own
+abbrev quickBlocks : Header → (ℕ → List ℕ) → ℕ
+quickBlocks d block = either (eqb (d .count) 1) (λ u. blockCode d block 0) (λ u. blocksCode d block (d .count))
+
+abbrev quickBy : ℕ → Header → (ℕ → List ℕ) → List ℕ → ℕ
+quickBy code d block held =
+    either (eqb (length held) 40) (λ u. either (eqb code 0) (λ v. quickBlocks d block) (λ v. code)) (λ u. 1)
 
 abbrev quickCode : OpenCase → ℕ
 quickCode x =
-    let code = firstBroken (openRules (x .image) (x .approved) (x .signature) (length (x .output))) in
-    let d = headerOf (x .approved) in
-    let block = blockOf (x .image) (x .approved) in
-    quickBy (eqb (length (x .held)) 40) (eqb code 0) code
-    (λ u. pick (eqb (proved d block (d .count)) (d .count)) 0 (blockCode d block (proved d block (d .count))))
+    quickBy (firstBroken (openRules (x .image) (x .approved) (x .signature) (length (x .output)))) (headerOf (x .approved))
+    (blockOf (x .image) (x .approved)) (x .held)
+
+module _ (d : Header) (block : ℕ → List ℕ) where
+  single : blocksCode d block 1 ≡ blockCode d block 0
+  single = go (turn d block 0)
+    where
+      go : Turn 0 (proved d block 0) (proved d block 1) (blockCode d block 0) → blocksCode d block 1 ≡ blockCode d block 0
+      go (went p q r) = ap (λ (m : ℕ). pick (eqb m 1) 0 (blockCode d block m)) r ∙ sym q
+      go (stopped p q r) = ap (λ (m : ℕ). pick (eqb m 1) 0 (blockCode d block m)) r
+      go (Turn.held p r) = absurd (omega arith)
+
+  quick-blocks : quickBlocks d block ≡ blocksCode d block (d .count)
+  quick-blocks = go (eqb (d .count) 1) refl
+    where
+      go : (b : Bool) → eqb (d .count) 1 ≡ b
+          → either b (λ u. blockCode d block 0) (λ u. blocksCode d block (d .count)) ≡ blocksCode d block (d .count)
+      go true e = sym single ∙ ap (blocksCode d block) (sym (eqb-true (d .count) 1 e))
+      go false e = refl
 
 module _ (code : ℕ) (d : Header) (block : ℕ → List ℕ) (output held : List ℕ) where
-  abbrev m : ℕ
-  m = proved d block (d .count)
+  abbrev judged : ℕ
+  judged = either (eqb code 0) (λ v. quickBlocks d block) (λ v. code)
 
-  quick-outcome : outcome code d block output held .code
-      ≡ quickBy (eqb (length held) 40) (eqb code 0) code (λ u. pick (eqb m (d .count)) 0 (blockCode d block m))
-  unfolding outcome
-  quick-outcome = go (eqb code 0) (eqb (length held) 40)
+  quick-outcome : outcome code d block output held .code ≡ quickBy code d block held
+  quick-outcome = go (way code d block output held)
     where
-      go : (a b : Bool) → pick a
-          (pick b (given (openAnswer d block m) (put output 0 (fileUpTo d block m))) (record { code = 1; answer = held; lent = output }))
-          (pick b (given (refused code) output) (record { code = 1; answer = held; lent = output })) .code
-          ≡ quickBy b a code (λ u. pick (eqb m (d .count)) 0 (blockCode d block m))
-      go true true = refl
-      go true false = refl
-      go false true = refl
-      go false false = refl
+      whole : length held ≡ 40 → quickBy code d block held ≡ judged
+      whole h = ap (λ (b : Bool). either b (λ u. judged) (λ u. 1)) (eq-eqb (length held) 40 h)
+
+      go : Way code d block output held (outcome code d block output held)
+          → outcome code d block output held .code ≡ quickBy code d block held
+      go (unwritten h q) =
+          ap (λ (o : Outcome). o .code) q
+          ∙ sym (ap (λ (b : Bool). either b (λ u. judged) (λ u. 1)) (ne-eqb (length held) 40 h))
+      go (refusing h c q) =
+          ap (λ (o : Outcome). o .code) q
+          ∙ sym (whole h ∙ ap (λ (b : Bool). either b (λ v. quickBlocks d block) (λ v. code)) (ne-eqb code 0 c))
+      go (proving h c q) =
+          ap (λ (o : Outcome). o .code) q
+          ∙ sym
+          (whole h ∙ ap (λ (b : Bool). either b (λ v. quickBlocks d block) (λ v. code)) (eq-eqb code 0 c)
+          ∙ quick-blocks d block)
 
 quick : (x : OpenCase) → openCode x ≡ quickCode x
 quick x =
