@@ -1,18 +1,21 @@
 -- Which codes open and pack give, and what each leaves in the output.
-use mathlib.Core.Path.{_≡_, sym, ap, subst}
+use mathlib.Core.Path.{_≡_, refl, sym, ap, subst}
 use mathlib.Core.Bool.{Bool, true, false, not, _&&_, _||_}
 use mathlib.Core.List.{List, [], _∷_}
-use Prim.Native.Nat.{ℕ}
-use borrow.Author.Tests.{eq-eqb, ne-eqb}
+use Prim.Native.Nat.{ℕ, suc}
+use native.Mathlib.Omega.{arith}
+use borrow.Author.Tests.{eqb-false, eq-eqb, ne-eqb}
 use lib.Dec.{T, T-not, eqb}
 use lib.ListN.{length}
 use Rattle.octets.specs.Parts.{put}
-use Rattle.answers.specs.Answers.{Outcome}
+use Rattle.answers.specs.Answers.{Outcome, refused, recordBytes}
+use Rattle.answers.specs.declared.Answer.{Answer}
 use Rattle.answers.specs.Rules.{pick, Rule, firstBroken}
 use Rattle.chain.specs.Blocks.{blockOf, blockRules, blockCode, expected, proved, fileUpTo}
 use Rattle.chain.specs.Header.{Header, headerOf}
-use Rattle.chain.specs.Open.{openRules, opened}
+use Rattle.chain.specs.Open.{openRules, openAnswer, opened}
 use Rattle.chain.specs.Pack.{Order, packRules, image, packed}
+use Rattle.chain.proofs.BlockLaws.{proved-le, fails}
 use Rattle.chain.proofs.OpenLaws.{Way, unwritten, refusing, proving, way, opened-is}
 
 -- whether a code is one of some
@@ -39,6 +42,21 @@ code-passes f (r ∷ rs) z t =
     go : (b : Bool) → T (f (r .code)) → T (f (firstBroken rs)) → T (f (pick b (r .code) (firstBroken rs)))
     go true p q = p
     go false p q = q
+
+-- a refusal passes what is asked of codes but 0
+pub not-none : (f : ℕ → Bool) (rs : List Rule) → T (codesPass (λ (c : ℕ). eqb c 0 || f c) rs) → (firstBroken rs ≡ 0 → ⊥)
+    → T (f (firstBroken rs))
+not-none f rs t ne =
+    subst (λ (b : Bool). T (b || f (firstBroken rs))) (ne-eqb (firstBroken rs) 0 ne)
+    (code-passes (λ (c : ℕ). eqb c 0 || f c) rs tt t)
+
+is-true : (b : Bool) → T b → b ≡ true
+is-true true t = refl
+is-true false t = absurd t
+
+is-false : (b : Bool) → T (not b) → b ≡ false
+is-false true t = absurd t
+is-false false t = refl
 
 module _ (image approved : List ℕ) (signature : ℕ) (output held : List ℕ) where
   abbrev pub d : Header
@@ -109,6 +127,66 @@ module _ (image approved : List ℕ) (signature : ℕ) (output held : List ℕ) 
           (code-passes (λ (x : ℕ). not (among (13 ∷ 14 ∷ 15 ∷ []) x)) rules tt tt)
           (subst (λ (x : Outcome). T (among (13 ∷ 14 ∷ 15 ∷ []) (x .code))) q h))
       go (proving l c q) = ap (λ (x : Outcome). x .lent) q
+
+  -- ---- what a record of 40 bytes tells
+
+  -- place: the block number from 1 for 13 to 15, else 0; no commands, no entry; stored: the file bytes copied
+  pub record Tells (a : Answer) : Type 0 where
+    pub written : o .answer ≡ recordBytes a
+    pub code : o .code ≡ a .code
+    pub place : a .place ≡ pick (among (13 ∷ 14 ∷ 15 ∷ []) (a .code)) (suc m) 0
+    pub commands : a .commands ≡ 0
+    pub stored : a .stored ≡ pick (among (0 ∷ 13 ∷ 14 ∷ 15 ∷ []) (a .code)) (length (fileUpTo d block m)) 0
+    pub entry : a .entry ≡ 0
+
+  -- a refusal before any block has none of the codes that come from blocks
+  refused-code : (cs : List ℕ) → T (codesPass (λ (c : ℕ). eqb c 0 || not (among cs c)) rules)
+      → (firstBroken rules ≡ 0 → ⊥) → among cs (firstBroken rules) ≡ false
+  refused-code cs t ne = is-false (among cs (firstBroken rules)) (not-none (λ (c : ℕ). not (among cs c)) rules t ne)
+
+  -- the first bad block has one of them
+  bad-code : (m ≡ d .count → ⊥) → among (13 ∷ 14 ∷ 15 ∷ []) (blockCode d block m) ≡ true
+  bad-code ne =
+      is-true (among (13 ∷ 14 ∷ 15 ∷ []) (blockCode d block m))
+      (not-none (among (13 ∷ 14 ∷ 15 ∷ [])) (blockRules d m (expected d block m) (block m)) tt
+      (fails d block (d .count) (omega (arith, proved-le d block (d .count)))))
+
+  block-place : (b : Bool) → eqb m (d .count) ≡ b
+      → pick b 0 (suc m) ≡ pick (among (13 ∷ 14 ∷ 15 ∷ []) (pick b 0 (blockCode d block m))) (suc m) 0
+  block-place true e = refl
+  block-place false e = sym (ap (λ (x : Bool). pick x (suc m) 0) (bad-code (eqb-false m (d .count) e)))
+
+  pub told : length held ≡ 40 → (a : Answer) × Tells a
+  told h = go open-way
+    where
+      go : OpenWay → (a : Answer) × Tells a
+      go (unwritten l q) = absurd (l h)
+      go (refusing l c q) = (
+        refused (firstBroken rules),
+        record {
+          written = ap (λ (x : Outcome). x .answer) q;
+          code = ap (λ (x : Outcome). x .code) q;
+          place = sym (ap (λ (x : Bool). pick x (suc m) 0) (refused-code (13 ∷ 14 ∷ 15 ∷ []) tt c));
+          commands = refl;
+          stored = sym
+              (ap (λ (x : Bool). pick x (length (fileUpTo d block m)) 0) (refused-code (0 ∷ 13 ∷ 14 ∷ 15 ∷ []) tt c));
+          entry = refl;
+        },
+      )
+      go (proving l c q) = (
+        openAnswer d block m,
+        record {
+          written = ap (λ (x : Outcome). x .answer) q;
+          code = ap (λ (x : Outcome). x .code) q;
+          place = block-place (eqb m (d .count)) refl;
+          commands = refl;
+          stored = sym
+              (ap (λ (x : Bool). pick x (length (fileUpTo d block m)) 0)
+              (is-true (among (0 ∷ 13 ∷ 14 ∷ 15 ∷ []) (pick (eqb m (d .count)) 0 (blockCode d block m)))
+              (block-code (among (0 ∷ 13 ∷ 14 ∷ 15 ∷ [])) tt tt)));
+          entry = refl;
+        },
+      )
 
 -- ---- pack
 

@@ -1,6 +1,6 @@
 -- The signature field that is handed out, against the code that open gives.
 use mathlib.Core.Path.{_≡_, refl, sym, ap, subst, _∙_}
-use mathlib.Core.Bool.{Bool, true, false, not, _||_}
+use mathlib.Core.Bool.{Bool, true, false, not}
 use mathlib.Core.List.{List, [], _∷_, _++_}
 use Prim.Native.Nat.{ℕ, _+_, _*_}
 use native.Mathlib.Omega.{arith}
@@ -14,7 +14,7 @@ use Rattle.answers.specs.Rules.{pick, Rule, rule, firstBroken}
 use Rattle.answers.proofs.RuleLaws.{first-broken-append}
 use Rattle.chain.specs.Header.{headerOf, fileLength, streamRules}
 use Rattle.chain.specs.Open.{opened, signatureField}
-use Rattle.chain.proofs.GivenCodes.{among, code-passes, OpenWay, open-way, block-code}
+use Rattle.chain.proofs.GivenCodes.{among, code-passes, not-none, OpenWay, open-way, block-code}
 use Rattle.chain.proofs.HeaderLaws.{stream-passed}
 use Rattle.chain.proofs.OpenLaws.{unwritten, refusing, proving}
 
@@ -77,9 +77,7 @@ module _ (image approved : List ℕ) (signature : ℕ) where
             ∙ ap (λ (b : Bool). pick b (firstBroken last) S) (ne-eqb S 0 ne)
 
         early-code : T (among early S)
-        early-code =
-            subst (λ (b : Bool). T (b || among early S)) (ne-eqb S 0 ne)
-            (code-passes (λ (c : ℕ). eqb c 0 || among early c) (streamRules image approved signature) tt tt)
+        early-code = not-none (among early) (streamRules image approved signature) tt ne
 
         go : OpenWay image approved signature output held → T (among early (o .code))
         go (unwritten l q) = absurd (l h)

@@ -10,6 +10,7 @@ use lib.Dec.{T}
 use lib.ListN.{length, take, drop}
 use Rattle.octets.specs.Parts.{part, Octets}
 use Rattle.answers.specs.Answers.{Outcome}
+use Rattle.answers.specs.declared.Answer.{Answer}
 use Rattle.chain.specs.Blocks.{blockOf, proved, fileUpTo}
 use Rattle.chain.specs.Hashsum.{sumLength}
 use Rattle.chain.specs.Header.{Header, headerOf}
@@ -17,7 +18,7 @@ use Rattle.chain.specs.Open.{opened, signatureField}
 use Rattle.chain.specs.Pack.{Order, Packed, packRules, image, packed}
 use Rattle.chain.proofs.BlockLaws.{proved-le, file-agrees, file-begins}
 use Rattle.chain.proofs.CodeCases.{openCode, openCases, open-cases, packCode, packCases, pack-cases, sizesOf, documentOrders, document-sizes}
-use Rattle.chain.proofs.GivenCodes.{among, code-passes, open-code, unchanged, first-part, packed-unchanged, packed-image, packed-passes-rules}
+use Rattle.chain.proofs.GivenCodes.{among, code-passes, open-code, unchanged, first-part, packed-unchanged, packed-image, packed-passes-rules, Tells, told}
 use Rattle.chain.proofs.OpenLaws.{ButSignature, given, doneAnswer, opened-same}
 use Rattle.chain.proofs.OpenedPacks.{cleared, packed-opened}
 use Rattle.chain.proofs.PackLaws.{packable}
@@ -165,6 +166,12 @@ pub signature-given : (image approved : List ℕ) (signature : ℕ) (output held
     → (signatureField image approved signature ≡ part image (length approved) signature)
     × (length (signatureField image approved signature) ≡ signature)
 signature-given = field-given
+
+-- 9. What open's record tells: place is the block number from 1 for 13 to 15, else 0; 0 commands done, and as bytes
+-- stored the file bytes copied; entry 0.
+pub open-tells : (image approved : List ℕ) (signature : ℕ) (output held : List ℕ) → length held ≡ 40
+    → (a : Answer) × Tells image approved signature output held a
+open-tells = told
 
 -- "On both sides of each line": header size, blocks and padding of the cases that packing decides
 pub document-cases : map sizesOf documentOrders
