@@ -15,7 +15,7 @@ use Rattle.chain.specs.Blocks.{blockOf, proved, fileUpTo}
 use Rattle.chain.specs.Hashsum.{sumLength}
 use Rattle.chain.specs.Header.{Header, headerOf}
 use Rattle.chain.specs.Open.{opened, signatureField}
-use Rattle.chain.specs.Pack.{Order, Packed, packRules, image, packed}
+use Rattle.chain.specs.Pack.{Order, Packed, packRules, packed}
 use Rattle.chain.proofs.BlockLaws.{proved-le, file-agrees, file-begins}
 use Rattle.chain.proofs.CodeCases.{openCode, openCases, open-cases, packCode, packCases, pack-cases, sizesOf, documentOrders, document-sizes}
 use Rattle.chain.proofs.GivenCodes.{among, code-passes, open-code, unchanged, first-part, packed-unchanged, packed-image, packed-passes-rules, Tells, told}
@@ -64,25 +64,28 @@ pub open-but-signature : (image image′ approved : List ℕ) (signature : ℕ) 
     → opened image approved signature output held ≡ opened image′ approved signature output held
 open-but-signature = opened-same
 
+-- the file that an image's blocks hold, and how many of its bytes end with the last proved block
+abbrev pub fileOf : List ℕ → List ℕ → List ℕ
+fileOf image approved = fileUpTo (headerOf approved) (blockOf image approved) (headerOf approved .count)
+
+abbrev pub provedBytes : List ℕ → List ℕ → ℕ
+provedBytes image approved =
+    let m = proved (headerOf approved) (blockOf image approved) (headerOf approved .count) in
+    length (fileUpTo (headerOf approved) (blockOf image approved) m)
+
 -- 4. On 13, 14 and 15 open's output is the file's first part, up to the end of the last proved block, followed by
 -- what was there before.
 pub open-first-part : (image approved : List ℕ) (signature : ℕ) (output held : List ℕ)
     → T (among (13 ∷ 14 ∷ 15 ∷ []) (opened image approved signature output held .code))
-    → (n : ℕ)
-    × (n ≡ length (fileUpTo (headerOf approved) (blockOf image approved) (proved (headerOf approved) (blockOf image approved) (headerOf approved .count))))
-    × (opened image approved signature output held .lent
-    ≡ take n (fileUpTo (headerOf approved) (blockOf image approved) (headerOf approved .count)) ++ drop n output)
+    → opened image approved signature output held .lent
+    ≡ take (provedBytes image approved) (fileOf image approved) ++ drop (provedBytes image approved) output
 open-first-part image approved signature output held h =
     let d : Header = headerOf approved in
     let block : (ℕ → List ℕ) = blockOf image approved in
     let m : ℕ = proved d block (d .count) in
-    let n : ℕ = length (fileUpTo d block m) in (
-      n,
-      refl,
-      first-part image approved signature output held h
-          ∙ ap₂ (λ (f : List ℕ) (k : ℕ). f ++ drop k output)
-          (sym (file-begins d block m (d .count) (proved-le d block (d .count)))) (zero-add n),
-    )
+    first-part image approved signature output held h
+    ∙ ap₂ (λ (f : List ℕ) (k : ℕ). f ++ drop k output)
+    (sym (file-begins d block m (d .count) (proved-le d block (d .count)))) (zero-add (provedBytes image approved))
 
 -- On 1, 4 to 12 and 29 it is unchanged.
 pub open-unchanged : (image approved : List ℕ) (signature : ℕ) (output held : List ℕ)
