@@ -9,6 +9,7 @@ pub mod OpenLaws
 pub mod OpenedPacks
 pub mod PackLaws
 pub mod PackedOpens
+pub mod PassLaws
 pub mod RuleLaws
 pub mod SignatureLaws
 pub mod StreamLaws

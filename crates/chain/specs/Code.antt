@@ -1,9 +1,11 @@
 -- What the code's structs stand for.
 use mathlib.Core.List.{List, _++_}
-use Prim.Native.Nat.{ℕ, _-_}
-use lib.ListN.{length, replicate}
+use mathlib.Core.Path.{_≡_}
+use Prim.Native.Nat.{ℕ, _-_, _<_}
+use lib.ListN.{replicate}
+use Rattle.answers.specs.Rules.{firstBroken}
 use Rattle.chain.specs.Hashsum.{hashsum, sumLength}
-use Rattle.chain.specs.Header.{Header}
+use Rattle.chain.specs.Header.{Header, headerOf, imageRules}
 use Rattle.chain.specs.declared.hashsum.Joined.{Joined}
 use Rattle.chain.specs.declared.header.Header.{Header as Fields}
 
@@ -26,3 +28,11 @@ headerWith h root =
       padding = h .padding;
       root = root;
     }
+
+-- the image passes 4 to 12, with the signature length that its header says
+abbrev pub Passes : List ℕ → List ℕ → Type 0
+Passes image approved = firstBroken (imageRules image approved (headerOf approved .signature)) ≡ 0
+
+-- so it has its blocks, and k is the number of one of them, from 0
+abbrev pub HasBlock : List ℕ → List ℕ → ℕ → Type 0
+HasBlock image approved k = Passes image approved × (k < headerOf approved .count)
