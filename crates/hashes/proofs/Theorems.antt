@@ -6,12 +6,13 @@ use native.Mathlib.Nat.{add-mod-mod, add-mod-right, div-add-mod', mod-le, mod-lt
 use native.Mathlib.Omega.{arith}
 use lib.Arith.{digits-mod}
 use lib.ListN.{length, replicate, length-append, length-replicate}
-use Rattle.octets.specs.Numbers.{bigBytes}
+use Rattle.octets.specs.Numbers.{little, littleBytes, bigBytes}
 use Rattle.octets.specs.Parts.{Octets}
 use Rattle.octets.proofs.NumberLaws.{length-bigBytes}
 use Rattle.hashes.specs.Widths.{Width}
-use Rattle.hashes.specs.Padding.{wordBytes, blockBytes, fieldBytes, zeroBytes, padded}
-use Rattle.hashes.specs.Tables.{SHA2-256, SHA2-384, SHA2-512}
+use Rattle.hashes.specs.Padding.{wordBytes, blockBytes, fieldBytes, zeroBytes, padded, wordsAt}
+use Rattle.hashes.specs.Tables.{K256, K512, initial256, initial384, SHA2-256, SHA2-384, SHA2-512}
+use Rattle.hashes.specs.Compression.{withNext, scheduled, round, afterRounds, summed, compressed, afterBlocks, hashed, joined, sha2}
 use Rattle.hashes.specs.Digests.{Algorithm, algorithmOf, algorithms, digest, digestLength}
 use Rattle.hashes.proofs.Storing.{length-sha2, octets-sha2}
 use Rattle.hashes.proofs.Algorithms.{every-algorithm, has-none, length-by}
@@ -92,3 +93,18 @@ module _ (P : Width) (some : 0 < wordBytes P) where
 
       none : a % B ≡ 0
       none = omega (arith, rest)
+
+-- ---- the example "abc" of FIPS 180-4, at each width
+
+pub abc-by-2 : digest 2 (0x61 ∷ 0x62 ∷ 0x63 ∷ [])
+    ≡ 0xba ∷ 0x78 ∷ 0x16 ∷ 0xbf ∷ 0x8f ∷ 0x01 ∷ 0xcf ∷ 0xea ∷ 0x41 ∷ 0x41 ∷ 0x40 ∷ 0xde ∷ 0x5d ∷ 0xae ∷ 0x22 ∷ 0x23
+    ∷ 0xb0 ∷ 0x03 ∷ 0x61 ∷ 0xa3 ∷ 0x96 ∷ 0x17 ∷ 0x7a ∷ 0x9c ∷ 0xb4 ∷ 0x10 ∷ 0xff ∷ 0x61 ∷ 0xf2 ∷ 0x00 ∷ 0x15 ∷ 0xad ∷ []
+unfolding little littleBytes padded wordsAt K256 initial256 withNext scheduled round afterRounds summed compressed afterBlocks hashed joined sha2 algorithms algorithmOf digest
+abc-by-2 = refl
+
+pub abc-by-3 : digest 3 (0x61 ∷ 0x62 ∷ 0x63 ∷ [])
+    ≡ 0xcb ∷ 0x00 ∷ 0x75 ∷ 0x3f ∷ 0x45 ∷ 0xa3 ∷ 0x5e ∷ 0x8b ∷ 0xb5 ∷ 0xa0 ∷ 0x3d ∷ 0x69 ∷ 0x9a ∷ 0xc6 ∷ 0x50 ∷ 0x07
+    ∷ 0x27 ∷ 0x2c ∷ 0x32 ∷ 0xab ∷ 0x0e ∷ 0xde ∷ 0xd1 ∷ 0x63 ∷ 0x1a ∷ 0x8b ∷ 0x60 ∷ 0x5a ∷ 0x43 ∷ 0xff ∷ 0x5b ∷ 0xed
+    ∷ 0x80 ∷ 0x86 ∷ 0x07 ∷ 0x2b ∷ 0xa1 ∷ 0xe7 ∷ 0xcc ∷ 0x23 ∷ 0x58 ∷ 0xba ∷ 0xec ∷ 0xa1 ∷ 0x34 ∷ 0xc8 ∷ 0x25 ∷ 0xa7 ∷ []
+unfolding little littleBytes padded wordsAt K512 initial384 withNext scheduled round afterRounds summed compressed afterBlocks hashed joined sha2 algorithms algorithmOf digest
+abc-by-3 = refl

@@ -17,4 +17,6 @@ returns-4 : tie.Need-returns-4
 returns-4 c = digest-by _ (has-none (c .match .rest .0 .0 .1) (c .match .rest .0 .1) (c .match .rest .1)) _ refl
 
 pub digest-spec : {M : Type 1} → statement M
-digest-spec = tie.close (tie.spec (λ c κs. search needs) (λ c κs. search needs) (λ c κs. search needs) returns returns-2 returns-3 returns-4)
+digest-spec =
+    tie.close
+    (tie.spec (λ c κs. search needs) (λ c κs. search needs) (λ c κs. search needs) returns returns-2 returns-3 returns-4)

@@ -6,7 +6,9 @@ use Rattle.hashes.proofs.wide.sha2_384.Statement.{statement}
 use Rattle.hashes.proofs.wide.sha2_384.Tie as tie
 
 returns : tie.Need-returns
-returns c = sha2-of SHA2-384 _ 6 (omega arith) (omega arith) (c .before .before .initial-384 .ensures) (c .before .message .ensures) (c .bytes .ensures)
+returns c =
+    sha2-of SHA2-384 _ 6 (omega arith) (omega arith) (c .before .before .initial-384 .ensures) (c .before .message .ensures)
+    (c .bytes .ensures)
 
 pub sha2-384-spec : {M : Type 1} → statement M
 sha2-384-spec = tie.close (tie.spec (λ c κs. search needs) (λ c κs. search needs) (λ c κs. search needs) returns)

@@ -11,7 +11,9 @@ returns c =
     let b = c .before .before .before .before .before .before .before .before .args in
     let H = narrowWords (b .self) in
     let M = wordsAt narrow (b .bytes .now) (b .at) 16 in
-    all-done narrow H M (c .before .late-rounds .ensures H M (c .before .before .before .early-rounds .ensures H M (c .before .before .before .before .before .load .ensures H))) (c .plus .ensures)
+    all-done narrow H M
+    (c .before .late-rounds .ensures H M (c .before .before .before .early-rounds .ensures H M (c .before .before .before .before .before .load .ensures H)))
+    (c .plus .ensures)
 
 pub block-spec : {M : Type 1} → statement M
 block-spec = tie.close (tie.spec (λ c κs. search needs) (λ c κs. search needs) (λ c κs. search needs) (λ c κs. search needs) returns)
