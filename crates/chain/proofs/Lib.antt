@@ -7,6 +7,7 @@ pub mod HeaderLaws
 pub mod JoinLaws
 pub mod OpenLaws
 pub mod OpenedPacks
+pub mod OpeningLaws
 pub mod PackLaws
 pub mod PackedOpens
 pub mod PassLaws

@@ -10,10 +10,10 @@ use Rattle.octets.specs.Parts.{part}
 use Rattle.octets.proofs.PartLaws.{length-part}
 use Rattle.answers.specs.Rules.{firstBroken}
 use Rattle.chain.specs.Blocks.{blockOf, blockRules, blockCode, expected, hashField}
-use Rattle.chain.specs.Code.{Passes, HasBlock, headerWith}
+use Rattle.chain.specs.Code.{Passes, HasBlock, Sized, headerWith}
 use Rattle.chain.specs.Header.{Header, headerOf, imageRules, blocksStart, dataLength}
 use Rattle.chain.specs.declared.header.Header.{Header as Fields}
-use Rattle.chain.proofs.HeaderLaws.{Passed, passed}
+use Rattle.chain.proofs.HeaderLaws.{Sound, Passed, passed}
 
 -- the signature length that was expected is the header's own
 pub passes-own : (image approved : List ℕ) (x : ℕ) → firstBroken (imageRules image approved x) ≡ 0 → Passes image approved
@@ -67,6 +67,13 @@ module _ (image approved : List ℕ) (k : ℕ) (has : HasBlock image approved k)
     code-is r x b j p q =
         j ∙ ap (λ (d : Header). firstBroken (blockRules d k x b)) e
         ∙ ap₂ (λ (y c : List ℕ). firstBroken (blockRules (headerOf approved) k y c)) p q
+
+-- the fields that the code read have a file's length
+pub sized : (approved : List ℕ) (size x : ℕ) (h : Fields) → headerWith h (drop 36 approved) ≡ headerOf approved
+    → Sound (headerOf approved) size x → Sized h
+sized approved size x h e s =
+    subst (λ (d : Header). (d .hashsumLength < d .blockSize) × (d .padding < dataLength d) × (0 < d .count) → Sized h) e
+    (λ t. record { above = t .0; padded = t .1; some = t .2 }) (s .above, s .padded, s .some)
 
 -- all from an offset on
 pub drop-is : (s : List ℕ) (at : ℕ) → at ≤ length s → take (length s - at) (drop at s) ≡ drop at s

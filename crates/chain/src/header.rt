@@ -2,7 +2,7 @@ ghost use mathlib.Core.Path.{_≡_};
 ghost use Prim.Native.Nat.{_+_, _*_, _^_, _≤_, _<_};
 ghost use denote.Ref.{now};
 ghost use lib.ListN.{length, take, drop};
-ghost use Rattle.chain.specs.Code.{headerWith};
+ghost use Rattle.chain.specs.Code.{headerWith, Sized};
 ghost use Rattle.chain.specs.Header as spec;
 ghost use mathlib.Core.List.{[]};
 ghost use Rattle.octets.specs.Parts.{same};
@@ -173,4 +173,13 @@ pub fn block_size_code(size: u64, sum: u64) -> u64
         return codes::BLOCKS;
     }
     codes::DONE
+}
+
+// The length of the file that a header that passed says.
+pub fn file_length(h: Header) -> u64
+    requires { ⌜ Sized h ⌝ }
+    ensures { λ r. ⌜ r ≡ spec.fileLength (headerWith h []) ⌝ }
+{
+    let data = h.block_size as u64 - h.hashsum_length as u64;
+    h.count as u64 * data - h.padding as u64
 }

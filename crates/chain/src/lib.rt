@@ -2,3 +2,4 @@
 pub mod blocks;
 pub mod hashsum;
 pub mod header;
+pub mod open;
