@@ -1,25 +1,37 @@
 -- Laws that carry the code's loops and fields to the definitions.
-use mathlib.Core.Path.{_≡_, refl, sym, ap, ap₂, _∙_}
-use mathlib.Core.Bool.{Bool, true, false}
+use mathlib.Core.Path.{_≡_, refl, sym, ap, ap₂, subst, _∙_}
+use mathlib.Core.Bool.{Bool, true, false, not}
 use mathlib.Core.List.{List, [], _∷_, _++_}
 use Prim.Native.Nat.{ℕ, zero, suc, _+_, _-_, _≤_, _<_}
 use native.Mathlib.Numerals.{add-one}
 use native.Mathlib.Omega.{arith}
-use borrow.Author.Tests.{eq-eqb, ne-eqb}
-use lib.Dec.{eqb}
-use lib.ListN.{length, getD, take, drop, length-append, length-take, drop-of-length-le}
+use borrow.Author.Tests.{eq-eqb, ne-eqb, lt-ltb, le-ltb, ltb-false}
+use lib.Bits.{bitAnd}
+use lib.Dec.{eqb, lit≤}
+use lib.ListN.{length, replicate, getD, take, drop, length-append, length-take, length-replicate, drop-of-length-le}
 use lib.Seq.{drop-cons, take-at, take-take}
 use Rattle.octets.specs.Numbers.{little}
 use Rattle.octets.specs.Parts.{part, put}
 use Rattle.octets.proofs.PartLaws.{part-of-take}
 use Rattle.answers.specs.Rules.{pick, firstBroken}
-use Rattle.machine.specs.Code.{stateOf, keptAll}
-use Rattle.machine.specs.Commands.{hasZero, commandOf, dataLength, headerRules}
-use Rattle.machine.specs.Machine.{Job, State, Turn, still, stopped, judged, turnedTo, begins, finished, magicRead, headerRead, passed}
+use Rattle.answers.proofs.RuleLaws.{zero-all-hold}
+use Rattle.board.specs.Board.{Board}
+use Rattle.board.specs.Cpuid.{lookup}
+use Rattle.board.specs.Map.{Region, regions, ram, reachable, offset}
+use Rattle.board.specs.declared.Found.{Found}
+use Rattle.board.specs.declared.Found.the-variants.{Word}
+use Rattle.board.proofs.MapLaws.{ordered-means, offset-fits}
+use Rattle.machine.specs.Code.{stateOf, keptAll, foundCode, wanted, Done, Lent, Gathered}
+use Rattle.machine.specs.Commands.{hasZero, command, commandOf, wrongLength, dataLength, address, fillCount, pattern, judgedBytes, headerRules, rangeRules, entryRules, checkRules, text, eax, ecx, value, mask, resultRegister}
+use Rattle.machine.specs.Machine.{Job, State, Turn, still, stopped, judged, turnedTo, tallied, withStored, withEntry, begins, finished, magicRead, headerRead, passed, writeRead, fillRead, entryRead, checkRead, storesFrom}
+use Rattle.machine.specs.Memory.{applied}
 use Rattle.machine.specs.declared.Command.{Command}
-use Rattle.machine.specs.declared.Command.the-variants.{Skip}
+use Rattle.machine.specs.declared.Command.the-variants.{Write, Fill, Entry, Check, Skip, Unknown}
 use Rattle.machine.specs.declared.Control.{Control}
-use Rattle.machine.specs.declared.Phase.the-variants.{Skipping}
+use Rattle.machine.specs.declared.Phase.{Phase}
+use Rattle.machine.specs.declared.Phase.the-variants.{Parameters, Storing, Skipping}
+use Rattle.machine.proofs.Standing.{range-holds}
+use Rattle.machine.proofs.MemoryLaws.{applied-from}
 
 -- ---- the text test
 
@@ -65,6 +77,14 @@ magic-held c h e p = ap (λ (k : ℕ). little (take k h)) e ∙ sym p
 
 -- ---- what is judged
 
+pub judged-few : (k : Command) → judgedBytes k ≤ 88
+judged-few Write = lit≤ tt
+judged-few Fill = lit≤ tt
+judged-few Entry = lit≤ tt
+judged-few Check = lit≤ tt
+judged-few Skip = lit≤ tt
+judged-few Unknown = lit≤ tt
+
 -- the code that the code worked out is that of the rules: it stops the run, or the command goes on
 module _ (s : State) {code rules : ℕ} (same : code ≡ rules) (t : Turn) where
   pub judged-stops : (code ≡ 0 → ⊥) → judged rules s t ≡ still (stopped code (s .start) s)
@@ -105,3 +125,169 @@ module _ (job : Job) (n : ℕ) (s : State) where
   pub skip-some : {k : Command} → k ≡ Skip → (n ≡ 0 → ⊥) → passed job k n s ≡ turnedTo (Skipping n) s
   unfolding passed
   skip-some k e = ap (λ (j : Command). passed job j n s) k ∙ ap (λ (b : Bool). pick b (finished job s) (turnedTo (Skipping n) s)) (ne-eqb n 0 e)
+
+-- ---- the rules in order, by the tests that the code made
+
+module _ (unit : Board) (a n : ℕ) where
+  pub out-of-reach : reachable (unit .reach) a n ≡ false → 20 ≡ firstBroken (rangeRules unit a n)
+  out-of-reach e = simp e
+
+  pub out-of-ram : reachable (unit .reach) a n ≡ true → ram (unit .map) a n ≡ false → 21 ≡ firstBroken (rangeRules unit a n)
+  out-of-ram e f = simp (e, f)
+
+  pub in-range : reachable (unit .reach) a n ≡ true → ram (unit .map) a n ≡ true → 0 ≡ firstBroken (rangeRules unit a n)
+  in-range e f = simp (e, f)
+
+module _ (unit : Board) (c : List ℕ) where
+  pub text-open : hasZero (text c) ≡ false → 22 ≡ firstBroken (checkRules unit c)
+  text-open e = simp e
+
+  module _ (zero : hasZero (text c) ≡ true) where
+    pub no-instruction : length (unit .table) ≡ 0 → 23 ≡ firstBroken (checkRules unit c)
+    no-instruction e = simp (zero, eq-eqb _ _ e)
+
+    module _ (some : length (unit .table) ≡ 0 → ⊥) where
+      pub no-register : 3 < resultRegister c → 24 ≡ firstBroken (checkRules unit c)
+      no-register h = simp (zero, ne-eqb _ _ some, lt-ltb _ _ h)
+
+      pub by-record : resultRegister c ≤ 3 → foundCode (lookup (unit .table) (eax c) (ecx c) (resultRegister c)) (mask c) (value c) ≡ firstBroken (checkRules unit c)
+      by-record h = simp (zero, ne-eqb _ _ some, le-ltb _ _ h)
+
+module _ (m v w : ℕ) {found : Found} (e : found ≡ Word w) where
+  pub check-holds : bitAnd w m ≡ v → 0 ≡ foundCode found m v
+  check-holds q = sym (ap (λ (f : Found). foundCode f m v) e ∙ simp (eq-eqb _ _ q))
+
+  pub check-fails : (bitAnd w m ≡ v → ⊥) → 26 ≡ foundCode found m v
+  check-fails q = sym (ap (λ (f : Found). foundCode f m v) e ∙ simp (ne-eqb _ _ q))
+
+-- ---- what the parameters say, by the numbers that the code read from them
+
+module _ (job : Job) (s : State) {code : ℕ} where
+  module _ {a n : ℕ} (at : a ≡ address (s .held)) (few : n ≡ dataLength (s .held) - 8)
+      (rules : code ≡ firstBroken (rangeRules (job .unit) a n)) where
+    write-rules : code ≡ firstBroken (rangeRules (job .unit) (address (s .held)) (dataLength (s .held) - 8))
+    write-rules = rules ∙ ap₂ (λ (b m : ℕ). firstBroken (rangeRules (job .unit) b m)) at few
+
+    abbrev write-goes : Turn
+    write-goes =
+        let n = dataLength (s .held) - 8 in
+        still (pick (eqb n 0) (finished job s) (turnedTo (Storing (address (s .held)) n) s))
+
+    write-picks : (b m : ℕ) → a ≡ b → n ≡ m → still (pick (eqb n 0) (finished job s) (turnedTo (Storing a n) s))
+        ≡ still (pick (eqb m 0) (finished job s) (turnedTo (Storing b m) s))
+    write-picks b m p q i = still (pick (eqb (q i) 0) (finished job s) (turnedTo (Storing (p i) (q i)) s))
+
+    pub write-stops : (code ≡ 0 → ⊥) → writeRead job s ≡ still (stopped code (s .start) s)
+    unfolding writeRead
+    write-stops = judged-stops s write-rules write-goes
+
+    pub write-empty : code ≡ 0 → n ≡ 0 → writeRead job s ≡ still (finished job s)
+    unfolding writeRead
+    write-empty e z =
+        judged-goes s write-rules write-goes e ∙ sym (write-picks (address (s .held)) (dataLength (s .held) - 8) at few)
+        ∙ ap (λ (b : Bool). still (pick b (finished job s) (turnedTo (Storing a n) s))) (eq-eqb n 0 z)
+
+    pub write-stores : code ≡ 0 → (n ≡ 0 → ⊥) → writeRead job s ≡ still (turnedTo (Storing a n) s)
+    unfolding writeRead
+    write-stores e z =
+        judged-goes s write-rules write-goes e ∙ sym (write-picks (address (s .held)) (dataLength (s .held) - 8) at few)
+        ∙ ap (λ (b : Bool). still (pick b (finished job s) (turnedTo (Storing a n) s))) (ne-eqb n 0 z)
+
+  module _ {a : ℕ} (at : a ≡ address (s .held)) (rules : code ≡ firstBroken (entryRules (job .unit) a)) where
+    entry-rules : code ≡ firstBroken (entryRules (job .unit) (address (s .held)))
+    entry-rules = rules ∙ ap (λ (b : ℕ). firstBroken (entryRules (job .unit) b)) at
+
+    pub entry-stops : (code ≡ 0 → ⊥) → entryRead job s ≡ still (stopped code (s .start) s)
+    unfolding entryRead
+    entry-stops =
+        judged-stops s entry-rules (still (finished job (tallied (withEntry (address (s .held)) (s .tally)) s)))
+
+    pub entry-counts : code ≡ 0 → entryRead job s ≡ still (finished job (tallied (withEntry a (s .tally)) s))
+    unfolding entryRead
+    entry-counts e =
+        judged-goes s entry-rules (still (finished job (tallied (withEntry (address (s .held)) (s .tally)) s))) e
+        ∙ ap (λ (b : ℕ). still (finished job (tallied (withEntry b (s .tally)) s))) (sym at)
+
+  module _ (rules : code ≡ firstBroken (checkRules (job .unit) (s .held))) where
+    pub check-stops : (code ≡ 0 → ⊥) → checkRead job s ≡ still (stopped code (s .start) s)
+    unfolding checkRead
+    check-stops = judged-stops s rules (still (finished job s))
+
+    pub check-passes : code ≡ 0 → checkRead job s ≡ still (finished job s)
+    unfolding checkRead
+    check-passes = judged-goes s rules (still (finished job s))
+
+  module _ {a n : ℕ} (at : a ≡ address (s .held)) (few : n ≡ fillCount (s .held))
+      (rules : code ≡ firstBroken (rangeRules (job .unit) a n)) where
+    fill-rules : code ≡ firstBroken (rangeRules (job .unit) (address (s .held)) (fillCount (s .held)))
+    fill-rules = rules ∙ ap₂ (λ (b m : ℕ). firstBroken (rangeRules (job .unit) b m)) at few
+
+    -- what a fill of n bytes v at a does
+    abbrev pub filled : ℕ → ℕ → ℕ → Turn
+    filled b m v =
+        record { state = finished job (tallied (withStored m (s .tally)) s); stores = storesFrom b (replicate m v) }
+
+    pub fill-stops : (code ≡ 0 → ⊥) → fillRead job s ≡ still (stopped code (s .start) s)
+    unfolding fillRead
+    fill-stops = judged-stops s fill-rules (filled (address (s .held)) (fillCount (s .held)) (pattern (s .held)))
+
+    pub fill-stores : {v : ℕ} → v ≡ pattern (s .held) → code ≡ 0 → fillRead job s ≡ filled a n v
+    unfolding fillRead
+    fill-stores {v} p e =
+        let same : filled a n v ≡ filled (address (s .held)) (fillCount (s .held)) (pattern (s .held)) =
+        λ i. filled (at i) (few i) (p i) in
+        judged-goes s fill-rules (filled (address (s .held)) (fillCount (s .held)) (pattern (s .held))) e ∙ sym same
+
+-- ---- what is done
+
+pub done-still : {t : Turn} (s : State) (map : List Region) (m : List ℕ) → t ≡ still s → Done t s map m m
+unfolding applied
+done-still s map m e =
+    record {
+      state = sym (ap (λ (u : Turn). u .state) e);
+      memory = sym (ap (λ (u : Turn). applied map m (u .stores)) e);
+    }
+
+pub done-same : {t u : Turn} {s : State} {map : List Region} {before after : List ℕ} → t ≡ u → Done u s map before after → Done t s map before after
+done-same {s = s} {map} {before} {after} e d = subst (λ (v : Turn). Done v s map before after) (sym e) d
+
+-- a range that is stored to: all of it in memory, byte after byte
+module _ (map memory : List ℕ) (lent : Lent map (length memory)) (a : ℕ) where
+  pub range-fits : (n : ℕ) → ram (regions map) a n ≡ true → offset (regions map) a + n ≤ length memory
+  range-fits n r =
+      omega (arith, lent .whole, offset-fits 0 (regions map) (ordered-means 0 (regions map) (lent .order)) a n r)
+
+  pub block-done : (bs : List ℕ) {at : ℕ} {after : List ℕ} → ram (regions map) a (length bs) ≡ true → at ≡ offset (regions map) a
+      → after ≡ put memory at bs → after ≡ applied (regions map) memory (storesFrom a bs)
+  block-done bs r e p =
+      p ∙ ap (λ (i : ℕ). put memory i bs) e
+      ∙ sym (applied-from (regions map) memory a bs (lent .order) (omega (arith, lent .whole)) r)
+
+-- a block of stores is done
+pub done-block : (map memory : List ℕ) {after : List ℕ} (lent : Lent map (length memory)) (a : ℕ) (bs : List ℕ) {t : Turn} {s u : State} {at : ℕ}
+    → t ≡ record { state = u; stores = storesFrom a bs } → s ≡ u → ram (regions map) a (length bs) ≡ true → at ≡ offset (regions map) a
+    → after ≡ put memory at bs → Done t s (regions map) memory after
+done-block map memory lent a bs e q r at p =
+    record {
+      state = q ∙ sym (ap (λ (v : Turn). v .state) e);
+      memory = block-done map memory lent a bs r at p ∙ sym (ap (λ (v : Turn). applied (regions map) memory (v .stores)) e);
+    }
+
+-- ---- which command is judged
+
+module _ (c : Control) (held : List ℕ) (phase : c .phase ≡ Parameters) (long : length held ≡ 104) (all : Gathered c held) where
+  pub parameters-are : {x : ℕ} {k j : Command} → x ≡ little (part held 0 2) → k ≡ command x → k ≡ j
+      → (c .kept ≡ 16 + judgedBytes j) × (commandOf (stateOf c held .held) ≡ j)
+  parameters-are {j = j} e f g =
+      let n : c .kept ≡ 16 + judgedBytes (commandOf (stateOf c held .held)) =
+      all .all ∙ ap (λ (p : Phase). wanted p (stateOf c held .held)) phase in
+      let is : commandOf (stateOf c held .held) ≡ j =
+      sym (ap command (field held (c .kept) 0 2 (omega arith) e)) ∙ sym f ∙ g in
+      (n ∙ ap (λ (i : Command). 16 + judgedBytes i) is, is)
+
+pub write-long : {k : Command} {n : ℕ} → k ≡ Write → wrongLength k n ≡ false → 8 ≤ n
+write-long {k} {n} e f = ltb-false n 8 (ap (λ (j : Command). wrongLength j n) (sym e) ∙ f)
+
+-- what a range that was judged says
+pub range-ram : (unit : Board) (a n : ℕ) {code : ℕ} → code ≡ firstBroken (rangeRules unit a n) → code ≡ 0 → ram (unit .map) a n ≡ true
+range-ram unit a n e z = range-holds unit a n (zero-all-hold (rangeRules unit a n) tt (sym e ∙ z)) .0

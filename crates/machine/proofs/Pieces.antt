@@ -10,33 +10,12 @@ use lib.ListN.{length, length-append}
 use lib.Seq.{append-snoc, take-append-le}
 use Rattle.octets.specs.Numbers.{little}
 use Rattle.answers.specs.Rules.{pick}
-use Rattle.machine.specs.Code.{keptAll, wanted, reads}
+use Rattle.machine.specs.Code.{over, keptAll, wanted, reads, landed}
 use Rattle.machine.specs.Commands.{command, commandOf}
-use Rattle.machine.specs.Machine.{
-  Job,
-  State,
-  Store,
-  Turn,
-  react,
-  step,
-  run,
-  trace,
-  still,
-  kept,
-  turnedTo,
-  withStored,
-  begins,
-  finished,
-  gathered,
-  storesFrom,
-}
+use Rattle.machine.specs.Machine.{Job, State, Store, Turn, react, step, run, trace, still, kept, withStored, begins, finished, gathered, storesFrom}
 use Rattle.machine.specs.declared.Tally.{Tally}
 use Rattle.machine.specs.declared.Phase.{Phase}
 use Rattle.machine.specs.declared.Phase.the-variants.{Magic, Header, Parameters, Storing, Skipping, Stopped}
-
--- what the bytes do: the state after them, and the stores that they cause
-abbrev pub over : Job → State → List ℕ → Turn
-over job s xs = record { state = run job s xs; stores = trace job s xs }
 
 -- the same from the first byte's turn on
 abbrev then : Job → Turn → List ℕ → Turn
@@ -112,12 +91,6 @@ pub commandOf-append : (h xs : List ℕ) → 2 ≤ length h → commandOf (h ++ 
 commandOf-append h xs l = ap (λ (c : List ℕ). command (little c)) (take-append-le 2 h xs l)
 
 -- ---- bytes of a command's data: n of them used, and the last one finishes the command
-
--- the command finished, or in phase p, with the next offset and the tally as given
-abbrev pub landed : Job → Bool → Phase → ℕ → Tally → State → State
-landed job last p next t s =
-    let u : State = record { phase = s .phase; held = s .held; start = s .start; next = next; tally = t } in
-    pick last (finished job u) (turnedTo p u)
 
 pred-eqb : (n m : ℕ) → 0 < n → eqb (pred n) m ≡ eqb n (suc m)
 pred-eqb zero m h = absurd (omega arith)

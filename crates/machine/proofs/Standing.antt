@@ -232,7 +232,7 @@ header-kept h xs l = (
 )
 
 -- what a command is judged by is part of its data
-judged-in-data : (k : Command) (n : ℕ) → wrongLength k n ≡ false → judgedBytes k ≤ n
+pub judged-in-data : (k : Command) (n : ℕ) → wrongLength k n ≡ false → judgedBytes k ≤ n
 judged-in-data Write n e = ltb-false n 8 e
 judged-in-data Fill n e = omega (arith, eqb-true n 24 (not-false (eqb n 24) e))
 judged-in-data Entry n e = omega (arith, eqb-true n 8 (not-false (eqb n 8) e))
@@ -241,7 +241,7 @@ judged-in-data Skip n e = omega arith
 judged-in-data Unknown n e = omega arith
 
 -- a range that breaks no rule
-range-holds : (unit : Board) (a n : ℕ) → AllHold (rangeRules unit a n) → (ram (unit .map) a n ≡ true) × (a + max n 1 ≤ unit .reach)
+pub range-holds : (unit : Board) (a n : ℕ) → AllHold (rangeRules unit a n) → (ram (unit .map) a n ≡ true) × (a + max n 1 ≤ unit .reach)
 range-holds unit a n h = (
   not-false (ram (unit .map) a n) (h .1 .0),
   leb-true (a + max n 1) (unit .reach) (not-false (reachable (unit .reach) a n) (h .0)),
