@@ -1,0 +1,44 @@
+#include "boot.h"
+
+#include "runnelpin.h"
+
+uint64_t boot_number(const uint8_t *bytes, size_t length)
+{
+    uint64_t number = 0;
+    while (length > 0)
+        number = number << 8 | bytes[--length];
+    return number;
+}
+
+struct answer boot_load(const struct unit *unit, struct slice image, struct slice header)
+{
+    static uint8_t record[RUNNELPIN_ANSWER_BYTES];
+    struct answer answer;
+
+    /* The code is returned too, but only the record says where a refused load stopped. */
+    (void)runnelpin_load(image.at, image.length, header.at, header.length, unit->map.at, unit->map.length,
+                         unit->cpuid.at, unit->cpuid.length, unit->mode, unit->signature_length, unit->memory,
+                         unit->memory_length, record, sizeof record);
+    answer.code = boot_number(record, 8);
+    answer.place = boot_number(record + 8, 8);
+    answer.commands = boot_number(record + 16, 8);
+    answer.stored = boot_number(record + 24, 8);
+    answer.entry = boot_number(record + 32, 8);
+    return answer;
+}
+
+struct slice boot_cpuid(void)
+{
+    static uint32_t records[2][6];
+    struct slice table = { (const uint8_t *)records, sizeof records };
+
+    for (uint32_t leaf = 0; leaf < 2; leaf++) {
+        uint32_t *record = records[leaf];
+        record[0] = leaf;
+        record[1] = 0;
+        __asm__ volatile("cpuid"
+                         : "=a"(record[2]), "=b"(record[3]), "=c"(record[4]), "=d"(record[5])
+                         : "a"(leaf), "c"(0));
+    }
+    return table;
+}

@@ -1,0 +1,39 @@
+/* The part of a boot stub that calls the loader: no heap, no libc, nothing but static buffers. */
+#ifndef BOOT_H
+#define BOOT_H
+
+#include <stddef.h>
+#include <stdint.h>
+
+struct slice {
+    const uint8_t *at;
+    size_t length;
+};
+
+/* What a unit lends to every load. */
+struct unit {
+    struct slice map;
+    struct slice cpuid;
+    uint64_t mode;
+    uint64_t signature_length;
+    uint8_t *memory; /* the map's regions one behind the other */
+    size_t memory_length;
+};
+
+struct answer {
+    uint64_t code, place, commands, stored, entry;
+};
+
+/* Loads an image under the header that the security chip has approved. */
+struct answer boot_load(const struct unit *unit, struct slice image, struct slice header);
+
+/* The CPUID table, read from the processor: leaves 0 and 1. */
+struct slice boot_cpuid(void);
+
+/* The number that at most eight little-endian bytes spell. */
+uint64_t boot_number(const uint8_t *bytes, size_t length);
+
+/* Starts what was loaded: the entry becomes the instruction pointer, every other register is zero. */
+void boot_hand_off(uint64_t entry) __attribute__((noreturn));
+
+#endif
