@@ -1,17 +1,20 @@
 -- What the code may do with an image that has passed, by the fields that it read: where its blocks and their file bytes lie.
 use mathlib.Core.Path.{_≡_, refl, sym, ap, ap₂, subst, _∙_}
+use mathlib.Core.Bool.{Bool}
 use mathlib.Core.List.{List, []}
 use Prim.Native.Nat.{ℕ, zero, suc, _+_, _-_, _*_, _≤_, _<_}
 use native.Mathlib.Nat.{mul-le-mul-right, suc-mul}
 use native.Mathlib.Omega.{arith}
+use borrow.Author.Tests.{eq-eqb, ne-eqb}
 use lib.ListN.{length, take, drop, length-drop}
 use lib.Seq.{take-all}
 use Rattle.octets.specs.Parts.{part}
 use Rattle.octets.proofs.PartLaws.{length-part}
-use Rattle.answers.specs.Rules.{firstBroken}
+use Rattle.answers.specs.Rules.{pick, firstBroken}
 use Rattle.chain.specs.Blocks.{blockOf, blockRules, blockCode, expected, hashField}
 use Rattle.chain.specs.Code.{Passes, HasBlock, Sized, headerWith}
-use Rattle.chain.specs.Header.{Header, headerOf, imageRules, blocksStart, dataLength}
+use Rattle.chain.specs.Header.{Header, headerOf, imageRules, streamRules, blocksStart, dataLength}
+use Rattle.chain.specs.Open.{fieldStart}
 use Rattle.chain.specs.declared.header.Header.{Header as Fields}
 use Rattle.chain.proofs.HeaderLaws.{Sound, Passed, passed}
 
@@ -83,3 +86,13 @@ drop-is s at h = take-all (length s - at) (drop at s) (omega (arith, length-drop
 pub expected-before : (d : Header) (block : ℕ → List ℕ) (k : ℕ) → (k ≡ 0 → ⊥) → expected d block k ≡ hashField d (block (k - 1))
 expected-before d block zero n = absurd (n refl)
 expected-before d block (suc k) n = let e : suc k - 1 ≡ k = omega arith in ap (λ (i : ℕ). hashField d (block i)) (sym e)
+
+-- where the signature field begins
+module _ (image approved : List ℕ) (x code : ℕ) (e : code ≡ firstBroken (streamRules image approved x)) where
+  pub starts-nowhere : (code ≡ 0 → ⊥) → fieldStart image approved x ≡ 0
+  starts-nowhere n =
+      ap (λ (b : Bool). pick b (length approved) 0) (ne-eqb (firstBroken (streamRules image approved x)) 0 (λ z. n (e ∙ z)))
+
+  pub starts-behind : code ≡ 0 → fieldStart image approved x ≡ length approved
+  starts-behind z =
+      ap (λ (b : Bool). pick b (length approved) 0) (eq-eqb (firstBroken (streamRules image approved x)) 0 (sym e ∙ z))

@@ -42,3 +42,8 @@ abbrev pub signatureField : List ℕ → List ℕ → ℕ → List ℕ
 signatureField image approved expected =
     pick (eqb (firstBroken (streamRules image approved expected)) 0)
     (part image (length approved) (headerOf approved .signature)) []
+
+-- where it begins in the image; 0 where it is empty
+abbrev pub fieldStart : List ℕ → List ℕ → ℕ → ℕ
+fieldStart image approved expected =
+    pick (eqb (firstBroken (streamRules image approved expected)) 0) (length approved) 0

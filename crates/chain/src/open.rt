@@ -1,5 +1,6 @@
 ghost use mathlib.Core.Path.{_≡_};
-ghost use denote.Ref.{now};
+ghost use denote.Ref.{now, ptr};
+ghost use Prim.Native.Nat.{_+_};
 ghost use lib.ListN.{length};
 ghost use Rattle.answers.specs.Answers.{Outcome};
 ghost use Rattle.answers.specs.Rules.{firstBroken};
@@ -37,6 +38,7 @@ pub fn open(
 // The signature field: the bytes between header and first block, as a part of the image; none where open would give 1 or 4 to 12.
 pub fn signature_field<'a>(image: &'a [u8], header: &[u8], expected: u64) -> &'a [u8]
     ensures { λ r. ⌜ now r ≡ spec.signatureField (now (image .entry)) (now (header .entry)) expected ⌝ }
+    ensures { λ r. ⌜ ptr r ≡ (ptr (image .entry) .0, ptr (image .entry) .1 + spec.fieldStart (now (image .entry)) (now (header .entry)) expected) ⌝ }
 {
     let code = header::stream_code(image, header, expected);
     if code != codes::DONE {
