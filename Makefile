@@ -1,4 +1,4 @@
-.PHONY: help test prove archives bench
+.PHONY: help test prove archives tool bench
 
 help: ## print this
 	@sed -n 's/^\([a-z]*\):.*## /make \1: /p' Makefile
@@ -11,6 +11,19 @@ prove: ## prove what has changed since it was last proved, and run the Rattle pr
 
 archives: ## build/libNAME.a of each crate that exports calls, for C or Rust to link
 	@tools/archives
+
+tool: archives ## build/runnelpin, the command-line tool; 'man ./docs/runnelpin.1' tells of it
+	@$(MAKE) -s build/runnelpin
+
+TOOL = $(CC) -std=c99 -Wall -Wextra -Werror -Iinclude tool/*.c build/librunnelpin.a -o $@
+TOOL_PARTS = build/librunnelpin.a include/runnelpin.h $(wildcard tool/*.[ch])
+
+build/runnelpin: $(TOOL_PARTS)
+	@$(TOOL) -O2
+
+# The same for the tests, ended by an address or an overflow that C leaves undefined.
+build/runnelpin-watched: $(TOOL_PARTS)
+	@$(TOOL) -O1 -g -fsanitize=address,undefined -fno-sanitize-recover=all
 
 bench: archives ## the library's speed against plain Rust, and OpenSSL where it is
 	@cd tests && cargo run --quiet --release --bin bench

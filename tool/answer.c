@@ -1,0 +1,215 @@
+#include "answer.h"
+
+#include "command.h"
+#include "image.h"
+#include "runnelpin.h"
+
+#include <inttypes.h>
+
+struct answer read_answer(const uint8_t *record)
+{
+    struct answer a = {little(record, 8), little(record + 8, 8), little(record + 16, 8), little(record + 24, 8),
+                       little(record + 32, 8)};
+    return a;
+}
+
+struct call new_call(void)
+{
+    struct call c = {.signature_length = 1, .board = {.mode = 64}};
+    return c;
+}
+
+static void say_argument(struct text *text, const struct call *c)
+{
+    if (c->board.mode != 32 && c->board.mode != 64)
+        say(text, "; the mode is %" PRIu64, c->board.mode);
+    else if (c->signature_length < 1 || c->signature_length > 4096)
+        say(text, "; the signature length is %" PRIu64, c->signature_length);
+    else
+        say(text, "; it is over 2^30 bytes");
+}
+
+static void say_map(struct text *text, const struct call *c)
+{
+    say(text, "; ");
+    uint64_t total = map_total(c->board.map, text);
+    if (total)
+        say(text, "memory has %zu bytes, the regions %" PRIu64, c->board.memory.length, total);
+}
+
+static void say_table(struct text *text, const struct call *c)
+{
+    say(text, "; ");
+    say_table_fault(text, c->board.table);
+}
+
+static void say_difference(struct text *text, const struct call *c)
+{
+    size_t same = 0;
+    while (same < c->header.length && same < c->image.length && c->header.at[same] == c->image.at[same])
+        same++;
+    say(text, "; the header has %zu bytes, the image %zu", c->header.length, c->image.length);
+    if (same < c->header.length)
+        say(text, same < c->image.length ? ", they differ at byte %zu" : ", it ends at byte %zu", same);
+}
+
+/* The header fields that a code judges, as bits. */
+static unsigned judged_fields(uint64_t code)
+{
+#define BIT(name) (1u << FIELD_##name)
+    static const unsigned fields[] = {
+        [RUNNELPIN_HEADER_MAGIC] = BIT(MAGIC),
+        [RUNNELPIN_HASH_ID] = BIT(HASH_1) | BIT(HASH_2) | BIT(HASH_3) | BIT(HASH_4),
+        [RUNNELPIN_HASHSUM_LENGTH] = BIT(HASHSUM_LENGTH),
+        [RUNNELPIN_HEADER_SIZE] = BIT(HEADER_SIZE) | BIT(HASHSUM_LENGTH),
+        [RUNNELPIN_SCHEME] = BIT(SCHEME),
+        [RUNNELPIN_SIGNATURE_LENGTH] = BIT(SIGNATURE_LENGTH),
+        [RUNNELPIN_BLOCKS] = BIT(BLOCK_COUNT) | BIT(BLOCK_SIZE) | BIT(HASHSUM_LENGTH) | BIT(PADDING),
+        [RUNNELPIN_IMAGE_LENGTH] = BIT(HEADER_SIZE) | BIT(SIGNATURE_LENGTH) | BIT(BLOCK_COUNT) | BIT(BLOCK_SIZE),
+    };
+#undef BIT
+    return fields[code];
+}
+
+static void say_fields(struct text *text, const struct call *c)
+{
+    const uint8_t *header = c->header.at;
+    for (int f = 0; f < FIELDS && header; f++) { /* a packer has none */
+        if (!(judged_fields(c->answer.code) >> f & 1))
+            continue;
+        say(text, "; ");
+        say_field_name(text, f);
+        say(text, f == FIELD_MAGIC ? " 0x%" PRIx64 : " %" PRIu64, field(header, f));
+    }
+    if (c->answer.code == RUNNELPIN_HEADER_SIZE)
+        say(text, "; approved are %zu bytes", c->header.length);
+    if (c->answer.code == RUNNELPIN_SIGNATURE_LENGTH)
+        say(text, "; expected are %" PRIu64, c->signature_length);
+    if (c->answer.code == RUNNELPIN_IMAGE_LENGTH)
+        say(text, "; the image has %zu bytes of %" PRIu64, c->image.length, image_length(header));
+}
+
+/* The command that the first byte which isn't proved belongs to, where the file holds commands. */
+static void say_command_reached(struct text *text, const struct stream *file)
+{
+    struct walk w = begin_walk(file);
+    while (next_command(&w)) {
+    }
+    if (w.code || !w.offset)
+        return;
+    say(text, "; command %" PRIu64 " at file offset %" PRIu64 " ", w.whole + 1, w.offset);
+    if (w.command.is_known) {
+        say(text, "is cut there: ");
+        say_command(text, &w.command);
+    } else {
+        say(text, "can't be read");
+    }
+}
+
+static void say_block(struct text *text, const struct call *c)
+{
+    struct stream file = stream_of_image(c->image);
+    uint64_t block = c->answer.place;
+    file.known = bytes_before_block(&file, block);
+    say(text, "; block %" PRIu64 " of %" PRIu64 ", from image byte %" PRIu64, block,
+        field(c->image.at, FIELD_BLOCK_COUNT), (uint64_t)(file.at - c->image.at) + (block - 1) * file.block_size);
+    say(text, "; %" PRIu64 " bytes of the file's %" PRIu64 " are proved", file.known, file.length);
+    say_command_reached(text, &file);
+}
+
+static void say_file(struct text *text, const struct call *c)
+{
+    struct stream file = c->is_image ? stream_of_image(c->image) : stream_of_file(c->image);
+    uint8_t first[8];
+    size_t length = file.length < sizeof first ? file.length : sizeof first;
+    copy_from(&file, 0, first, length);
+    say(text, "; the file has %" PRIu64 " bytes", file.length);
+    for (size_t i = 0; i < length; i++)
+        say(text, "%s%02x", i ? " " : " and begins with ", first[i]);
+}
+
+/* What a check that failed found in the table. */
+static void say_found(struct text *text, const struct call *c, const struct command *command)
+{
+    const uint8_t *at = command->parameters;
+    const uint8_t *results = table_results(c->board.table, little(at + 4, 4), little(at, 4));
+    if (c->answer.code == RUNNELPIN_CHECK_FAILED && results)
+        say(text, "; the register is 0x%" PRIx64, little(results + 4 * at[16], 4));
+}
+
+static void say_place(struct text *text, const struct call *c)
+{
+    struct stream file = c->is_image ? stream_of_image(c->image) : stream_of_file(c->image);
+    uint64_t place = c->answer.place;
+    say(text, "; file offset %" PRIu64 ": ", place);
+    if (file.length - place < COMMAND_HEADER) {
+        say(text, "%" PRIu64 " bytes are left, where a command begins with %d", file.length - place, COMMAND_HEADER);
+        return;
+    }
+    /* A header was judged, so its last byte's block is proved; from 20 on the parameters were too. */
+    if (c->is_image && c->answer.code < RUNNELPIN_NOT_REACHABLE)
+        file.known = bytes_before_block(&file, block_of_byte(&file, place + COMMAND_HEADER - 1) + 1);
+    struct command command;
+    read_command(&file, place, &command);
+    say_command(text, &command);
+    if (command.has_check)
+        say_found(text, c, &command);
+}
+
+static void say_end(struct text *text, const struct call *c)
+{
+    say(text, "; file offset %" PRIu64 ": the end", c->answer.place);
+}
+
+/* The codes: a name, what it means, and who says the rest. */
+static const struct {
+    const char *name, *meaning;
+    void (*rest)(struct text *, const struct call *);
+} codes[] = {
+    [RUNNELPIN_ARGUMENT] = {"argument", "mode not 32 or 64, signature length not 1 to 4096, or over 2^30 bytes",
+                            say_argument},
+    [RUNNELPIN_MAP] = {"map", "it breaks a rule, or memory is not as long as its regions", say_map},
+    [RUNNELPIN_TABLE] = {"CPUID table", "it breaks a rule", say_table},
+    [RUNNELPIN_APPROVED] = {"approved header", "under 36 bytes, or the image doesn't begin with it", say_difference},
+    [RUNNELPIN_HEADER_MAGIC] = {"header magic", "not 0xe6019598", say_fields},
+    [RUNNELPIN_HASH_ID] = {"hash", "one that is not supported, or none at the first position", say_fields},
+    [RUNNELPIN_HASHSUM_LENGTH] = {"hashsum length", "not that of the hashes", say_fields},
+    [RUNNELPIN_HEADER_SIZE] = {"header size", "not 36 and the hashsum length, or not as many as approved", say_fields},
+    [RUNNELPIN_SCHEME] = {"signature scheme", "not 1", say_fields},
+    [RUNNELPIN_SIGNATURE_LENGTH] = {"signature length", "not the expected one", say_fields},
+    [RUNNELPIN_BLOCKS] = {"blocks", "count 0, size not over the hashsum length or over 1048576, or too much padding",
+                          say_fields},
+    [RUNNELPIN_IMAGE_LENGTH] = {"image length", "not header, signature and blocks together", say_fields},
+    [RUNNELPIN_BLOCK_HASHSUM] = {"block hashsum", "the block is not the one that was packed", say_block},
+    [RUNNELPIN_BLOCK_PADDING] = {"block padding", "not zero", say_block},
+    [RUNNELPIN_LAST_HASH] = {"last block", "its hash field is not zero", say_block},
+    [RUNNELPIN_FILE_MAGIC] = {"file magic", "no command file, which begins with 5e b6 8c 44 a2 5f dc 8a", say_file},
+    [RUNNELPIN_COMMAND_CUT] = {"command cut", "it runs past the end of the file", say_place},
+    [RUNNELPIN_COMMAND_ID] = {"command unknown", "there is none of this number", say_place},
+    [RUNNELPIN_COMMAND_LENGTH] = {"command length", "not that of such a command", say_place},
+    [RUNNELPIN_NOT_REACHABLE] = {"not reachable", "an address past what the mode reaches", say_place},
+    [RUNNELPIN_NOT_RAM] = {"not RAM", "an address in no region of the map", say_place},
+    [RUNNELPIN_TEXT] = {"check text", "it has no zero byte", say_place},
+    [RUNNELPIN_CPUID_MISSING] = {"no CPUID", "a check, and there is no table", say_place},
+    [RUNNELPIN_REGISTER] = {"check register", "over 3", say_place},
+    [RUNNELPIN_NO_RECORD] = {"no CPUID record", "the table has none with these inputs", say_place},
+    [RUNNELPIN_CHECK_FAILED] = {"CPUID check", "it failed", say_place},
+    [RUNNELPIN_NO_ENTRY] = {"no entry", "the file ended without an entry command", say_end},
+    [RUNNELPIN_EMPTY_FILE] = {"empty file", "there is nothing to pack", NULL},
+    [RUNNELPIN_OUTPUT_LENGTH] = {"output length", "not the exact one", NULL},
+};
+
+void say_refusal(struct text *text, const struct call *c)
+{
+    uint64_t code = c->answer.code;
+    if (code >= sizeof codes / sizeof *codes || !codes[code].name) {
+        say(text, "refused: %" PRIu64 ", which this tool has no words for", code);
+        return;
+    }
+    say(text, "refused: %" PRIu64 ", %s: %s", code, codes[code].name, codes[code].meaning);
+    if (codes[code].rest)
+        codes[code].rest(text, c);
+    if (c->board.map.length && code > RUNNELPIN_IMAGE_LENGTH)
+        say(text, "; commands done %" PRIu64 ", bytes stored %" PRIu64 ", entry 0", c->answer.commands,
+            c->answer.stored);
+}

@@ -1,0 +1,42 @@
+#define _DEFAULT_SOURCE /* MAP_ANONYMOUS */
+#include "bytes.h"
+
+#include "fail.h"
+
+#include <inttypes.h>
+#include <stdlib.h>
+#include <sys/mman.h>
+
+uint64_t little(const uint8_t *at, size_t width)
+{
+    uint64_t value = 0;
+    while (width--)
+        value = value << 8 | at[width];
+    return value;
+}
+
+void put_little(uint8_t *at, size_t width, uint64_t value)
+{
+    for (size_t i = 0; i < width; i++)
+        at[i] = (uint8_t)(value >> 8 * i);
+}
+
+void *allocate(void *old, size_t length)
+{
+    void *at = realloc(old, length ? length : 1);
+    if (!at)
+        fail("no memory for %zu bytes", length);
+    return at;
+}
+
+struct bytes zeros(uint64_t length)
+{
+    struct bytes none = {NULL, 0};
+    if (!length)
+        return none;
+    void *at = mmap(NULL, length, PROT_READ | PROT_WRITE, MAP_PRIVATE | MAP_ANONYMOUS | MAP_NORESERVE, -1, 0);
+    if (at == MAP_FAILED)
+        fail("no memory for %" PRIu64 " bytes", length);
+    struct bytes made = {at, length};
+    return made;
+}

@@ -1,0 +1,22 @@
+/* Bytes in memory, and the little-endian numbers in them. */
+#ifndef BYTES_H
+#define BYTES_H
+
+#include <stddef.h>
+#include <stdint.h>
+
+struct bytes {
+    uint8_t *at;
+    size_t length;
+};
+
+uint64_t little(const uint8_t *at, size_t width);
+void put_little(uint8_t *at, size_t width, uint64_t value);
+
+/* Memory that is never given back: the tool does one job and ends. */
+void *allocate(void *old, size_t length);
+
+/* Zeros that cost nothing until they are touched. */
+struct bytes zeros(uint64_t length);
+
+#endif

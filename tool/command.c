@@ -1,0 +1,156 @@
+#include "command.h"
+
+#include "runnelpin.h"
+
+#include <inttypes.h>
+#include <string.h>
+
+#define REACH_LIMIT ((uint64_t)1 << 52)
+
+/* A kind of command: the data lengths it may have, and how many of those bytes are parameters. */
+struct kind {
+    const char *name;
+    uint64_t first_id, last_id, least, most;
+    size_t parameters;
+};
+
+static const struct kind kinds[] = {
+    {"write", COMMAND_WRITE, COMMAND_WRITE, 8, UINT64_MAX, 8},
+    {"fill", COMMAND_FILL, COMMAND_FILL, 24, 24, 24},
+    {"entry", COMMAND_ENTRY, COMMAND_ENTRY, 8, 8, 8},
+    {"CPUID check", COMMAND_CHECK, COMMAND_CHECK, MOST_PARAMETERS, MOST_PARAMETERS, MOST_PARAMETERS},
+    {"vendor command", 60000, 65535, 0, UINT64_MAX, 0},
+};
+
+static const struct kind *kind_of(uint64_t id)
+{
+    for (size_t i = 0; i < sizeof kinds / sizeof *kinds; i++)
+        if (kinds[i].first_id <= id && id <= kinds[i].last_id)
+            return &kinds[i];
+    return NULL;
+}
+
+/* The refusal that a command's parameters bring with any map and any table. */
+static uint64_t judge_parameters(const struct command *c)
+{
+    if (c->has_address && (c->address >= REACH_LIMIT || c->count > REACH_LIMIT - c->address))
+        return RUNNELPIN_NOT_REACHABLE;
+    if (c->has_check && !memchr(c->parameters + 24, 0, 64))
+        return RUNNELPIN_TEXT;
+    if (c->has_check && c->parameters[16] > 3)
+        return RUNNELPIN_REGISTER;
+    return RUNNELPIN_DONE;
+}
+
+static void take_parameters(struct command *c)
+{
+    c->has_check = c->id == COMMAND_CHECK;
+    c->has_address = c->id <= COMMAND_ENTRY;
+    if (c->has_address)
+        c->address = little(c->parameters, 8);
+    if (c->id == COMMAND_FILL) {
+        c->has_count = 1;
+        c->count = little(c->parameters + 8, 8);
+    }
+}
+
+uint64_t read_command(const struct stream *file, uint64_t offset, struct command *c)
+{
+    memset(c, 0, sizeof *c);
+    c->offset = offset;
+    if (file->length - offset < COMMAND_HEADER)
+        return RUNNELPIN_COMMAND_CUT;
+    if (file->known < offset + COMMAND_HEADER)
+        return RUNNELPIN_DONE;
+    uint8_t header[COMMAND_HEADER];
+    copy_from(file, offset, header, sizeof header);
+    c->is_known = 1;
+    c->id = little(header, 2);
+    c->length = little(header + 8, 8);
+    const struct kind *kind = kind_of(c->id);
+    if (!kind)
+        return RUNNELPIN_COMMAND_ID;
+    c->name = kind->name;
+    if (c->length < kind->least || c->length > kind->most)
+        return RUNNELPIN_COMMAND_LENGTH;
+    if (c->id == COMMAND_WRITE) {
+        c->has_count = 1;
+        c->count = c->length - 8;
+    }
+    if (kind->parameters && file->known - offset - COMMAND_HEADER >= kind->parameters) {
+        copy_from(file, offset + COMMAND_HEADER, c->parameters, kind->parameters);
+        take_parameters(c);
+    }
+    return c->length > file->length - offset - COMMAND_HEADER ? RUNNELPIN_COMMAND_CUT : judge_parameters(c);
+}
+
+static void say_check(struct text *text, const struct command *c)
+{
+    static const char *const registers[] = {"EAX", "EBX", "ECX", "EDX"};
+    const uint8_t *at = c->parameters, *zero = memchr(at + 24, 0, 64);
+    say(text, " of EAX 0x%" PRIx64 ", ECX 0x%" PRIx64 ": ", little(at + 4, 4), little(at, 4));
+    if (at[16] < 4)
+        say(text, "%s", registers[at[16]]);
+    else
+        say(text, "register %u", at[16]);
+    say(text, " and 0x%" PRIx64 " = 0x%" PRIx64 ", ", little(at + 12, 4), little(at + 8, 4));
+    say_quoted(text, at + 24, zero ? (size_t)(zero - at - 24) : 64);
+}
+
+void say_command(struct text *text, const struct command *c)
+{
+    say(text, "%s", c->name ? c->name : "command");
+    if (!c->name || c->id > COMMAND_CHECK)
+        say(text, " %" PRIu64, c->id);
+    if (c->has_check)
+        say_check(text, c);
+    else if (c->has_count)
+        say(text, " of %" PRIu64 " bytes", c->count);
+    else if (!c->has_address)
+        say(text, " with %" PRIu64 " bytes of data", c->length);
+    if (c->id == COMMAND_FILL && c->has_count)
+        say(text, " of 0x%02x", c->parameters[16]);
+    if (c->has_address)
+        say(text, " at 0x%" PRIx64, c->address);
+}
+
+struct walk begin_walk(const struct stream *file)
+{
+    struct walk w = {.file = file};
+    uint8_t magic[8];
+    if (file->length < sizeof magic) {
+        w.code = RUNNELPIN_FILE_MAGIC;
+    } else if (file->known >= sizeof magic) {
+        copy_from(file, 0, magic, sizeof magic);
+        if (little(magic, sizeof magic) == FILE_MAGIC)
+            w.offset = sizeof magic;
+        else
+            w.code = RUNNELPIN_FILE_MAGIC;
+    }
+    w.ended = w.code || !w.offset;
+    return w;
+}
+
+int next_command(struct walk *w)
+{
+    if (w->ended)
+        return 0;
+    if (w->offset == w->file->length) {
+        w->ended = 1;
+        w->code = w->has_entry ? RUNNELPIN_DONE : RUNNELPIN_NO_ENTRY;
+        return 0;
+    }
+    w->code = read_command(w->file, w->offset, &w->command);
+    uint64_t end = w->offset + COMMAND_HEADER + w->command.length;
+    if (w->code || !w->command.is_known || end > w->file->known) {
+        w->ended = 1;
+        return w->command.is_known;
+    }
+    w->offset = end;
+    w->whole++;
+    if (w->command.id == COMMAND_ENTRY) {
+        w->has_entry = 1;
+        w->entry = w->command.address;
+    }
+    return 1;
+}

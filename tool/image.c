@@ -1,0 +1,116 @@
+#include "image.h"
+
+#include "runnelpin.h"
+
+#include <string.h>
+
+const struct field_form field_forms[FIELDS] = {
+    [FIELD_MAGIC] = {"magic", 0, 4},
+    [FIELD_BLOCK_COUNT] = {"block_count", 4, 4},
+    [FIELD_BLOCK_SIZE] = {"block_size", 8, 4},
+    [FIELD_SIGNATURE_LENGTH] = {"signature_length", 12, 4},
+    [FIELD_HEADER_SIZE] = {"header_size", 16, 2},
+    [FIELD_HASHSUM_LENGTH] = {"hashsum_length", 18, 2},
+    [FIELD_HASH_1] = {"hash_1", 20, 2},
+    [FIELD_HASH_2] = {"hash_2", 22, 2},
+    [FIELD_HASH_3] = {"hash_3", 24, 2},
+    [FIELD_HASH_4] = {"hash_4", 26, 2},
+    [FIELD_SCHEME] = {"signature_scheme", 28, 2},
+    [FIELD_RESERVED] = {"reserved", 30, 2},
+    [FIELD_PADDING] = {"padding_length", 32, 4},
+};
+
+uint64_t field(const uint8_t *header, enum field which)
+{
+    return little(header + field_forms[which].at, field_forms[which].width);
+}
+
+void say_field_name(struct text *text, enum field which)
+{
+    for (const char *at = field_forms[which].name; *at; at++)
+        say(text, "%c", *at == '_' ? ' ' : *at);
+}
+
+static const struct hash hashes[] = {{"none", 0, 0}, {"sha256", 2, 32}, {"sha384", 3, 48}, {"sha512", 4, 64}};
+
+enum { HASH_NAMES = sizeof hashes / sizeof *hashes };
+
+const struct hash *hash_named(const char *name, size_t length)
+{
+    for (int i = 0; i < HASH_NAMES; i++)
+        if (strlen(hashes[i].name) == length && !memcmp(hashes[i].name, name, length))
+            return &hashes[i];
+    return NULL;
+}
+
+const struct hash *hash_of_id(uint64_t id)
+{
+    for (int i = 0; i < HASH_NAMES; i++)
+        if (hashes[i].id == id)
+            return &hashes[i];
+    return NULL;
+}
+
+struct bytes own_header(struct bytes image)
+{
+    if (image.length > LEAST_HEADER) {
+        uint64_t size = field(image.at, FIELD_HEADER_SIZE);
+        if (size < LEAST_HEADER)
+            size = LEAST_HEADER;
+        if (size < image.length)
+            image.length = size;
+    }
+    return image;
+}
+
+uint64_t image_length(const uint8_t *header)
+{
+    return field(header, FIELD_HEADER_SIZE) + field(header, FIELD_SIGNATURE_LENGTH) +
+           field(header, FIELD_BLOCK_COUNT) * field(header, FIELD_BLOCK_SIZE);
+}
+
+uint64_t judge_image(struct bytes image, struct bytes header, uint64_t signature_length)
+{
+    uint8_t answer[RUNNELPIN_ANSWER_BYTES];
+    uint64_t code = runnelpin_open(image.at, image.length, header.at, header.length, signature_length, NULL, 0, answer,
+                                   sizeof answer);
+    return code == RUNNELPIN_OUTPUT_LENGTH ? RUNNELPIN_DONE : code;
+}
+
+struct stream stream_of_file(struct bytes file)
+{
+    struct stream s = {file.at, file.length, file.length, UINT64_MAX, 0, 0};
+    return s;
+}
+
+struct stream stream_of_image(struct bytes image)
+{
+    struct stream s = {
+        .at = image.at + field(image.at, FIELD_HEADER_SIZE) + field(image.at, FIELD_SIGNATURE_LENGTH),
+        .block_size = field(image.at, FIELD_BLOCK_SIZE),
+        .hash_length = field(image.at, FIELD_HASHSUM_LENGTH),
+        .padding = field(image.at, FIELD_PADDING),
+    };
+    s.length = field(image.at, FIELD_BLOCK_COUNT) * (s.block_size - s.hash_length) - s.padding;
+    s.known = s.length;
+    return s;
+}
+
+uint64_t bytes_before_block(const struct stream *file, uint64_t block)
+{
+    return block == 1 ? 0 : (block - 1) * (file->block_size - file->hash_length) - file->padding;
+}
+
+uint64_t block_of_byte(const struct stream *file, uint64_t offset)
+{
+    return (file->padding + offset) / (file->block_size - file->hash_length) + 1;
+}
+
+void copy_from(const struct stream *file, uint64_t offset, uint8_t *to, size_t length)
+{
+    uint64_t data = file->block_size - file->hash_length;
+    for (size_t i = 0; i < length; i++, offset++) {
+        uint64_t within = (file->padding + offset) % data;
+        to[i] = file->at[(block_of_byte(file, offset) - 1) * file->block_size + file->hash_length + within];
+    }
+}

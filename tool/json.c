@@ -1,0 +1,56 @@
+#include "json.h"
+
+#include <inttypes.h>
+#include <stdio.h>
+
+static int depth, is_first = 1;
+
+int json_depth(void)
+{
+    return depth;
+}
+
+static void begin_item(const char *key)
+{
+    if (!is_first)
+        putchar(',');
+    is_first = 0;
+    if (key)
+        printf("\"%s\":", key);
+}
+
+void json_open(const char *key, char bracket)
+{
+    begin_item(key);
+    putchar(bracket);
+    is_first = 1;
+    depth++;
+}
+
+void json_close(char bracket)
+{
+    putchar(bracket);
+    is_first = 0;
+    if (!--depth)
+        putchar('\n');
+}
+
+void json_number(const char *key, uint64_t value)
+{
+    begin_item(key);
+    printf(value > (uint64_t)1 << 53 ? "\"%" PRIu64 "\"" : "%" PRIu64, value);
+}
+
+void json_text(const char *key, const struct text *text)
+{
+    begin_item(key);
+    putchar('"');
+    for (size_t i = 0; i < text->length; i++) {
+        unsigned char byte = (unsigned char)text->at[i];
+        if (byte < ' ' || byte > '~' || byte == '"' || byte == '\\')
+            printf("\\u%04x", byte);
+        else
+            putchar(byte);
+    }
+    putchar('"');
+}

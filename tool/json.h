@@ -1,0 +1,20 @@
+/* JSON on standard output. */
+#ifndef JSON_H
+#define JSON_H
+
+#include "text.h"
+
+/* The brackets of an object or array; `key` is NULL in an array and for the outermost. */
+void json_open(const char *key, char bracket);
+void json_close(char bracket);
+
+/* How many brackets are open. */
+int json_depth(void);
+
+/* A number over 2^53 is written as a string, since readers that use floating point would round it. */
+void json_number(const char *key, uint64_t value);
+
+/* Bytes over 127 are written as the characters of that number. */
+void json_text(const char *key, const struct text *text);
+
+#endif

@@ -1,0 +1,25 @@
+#include "image.h"
+#include "jobs.h"
+#include "runnelpin.h"
+#include "taking.h"
+
+int job_open(const struct request *request)
+{
+    struct report r = new_report(request);
+    struct call *c = &r.call;
+    struct bytes file = {NULL, 0};
+    take_image(&r);
+    c->answer.code = judge_image(c->image, c->header, c->signature_length);
+    if (!c->answer.code) {
+        file = zeros(stream_of_image(c->image).length);
+        uint8_t record[RUNNELPIN_ANSWER_BYTES];
+        runnelpin_open(c->image.at, c->image.length, c->header.at, c->header.length, c->signature_length, file.at,
+                       file.length, record, sizeof record);
+        c->answer = read_answer(record);
+        file.length = c->answer.stored;
+    }
+    give_output(&r, file);
+    if (!c->answer.code)
+        say(&r.words, "done: a file of %zu bytes, all blocks proved", file.length);
+    return finish(&r);
+}

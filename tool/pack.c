@@ -1,0 +1,71 @@
+#include "fail.h"
+#include "files.h"
+#include "image.h"
+#include "jobs.h"
+#include "report.h"
+#include "runnelpin.h"
+
+#include <inttypes.h>
+#include <string.h>
+
+struct packing {
+    struct bytes file;
+    uint64_t ids[HASHES], block_size, signature_length;
+};
+
+static void read_hashes(const char *names, uint64_t *ids)
+{
+    const char *name = names;
+    for (int i = 0; i < HASHES; i++) {
+        size_t length = strcspn(name, ",");
+        const struct hash *hash = hash_named(name, length);
+        if (!hash)
+            break;
+        ids[i] = hash->id;
+        if (!name[length])
+            return;
+        name += length + 1;
+    }
+    fail("--hash %s: up to four of none, sha256, sha384 and sha512 are wanted, with commas", names);
+}
+
+static uint64_t pack_into(const struct packing *p, struct bytes image)
+{
+    return runnelpin_pack(p->file.at, p->file.length, p->ids[0], p->ids[1], p->ids[2], p->ids[3], p->block_size,
+                          p->signature_length, image.at, image.length);
+}
+
+/* The length of the image, where nothing else is wrong. */
+static uint64_t packed_length(const struct packing *p)
+{
+    uint64_t sum = 0;
+    for (int i = 0; i < HASHES; i++)
+        sum += hash_of_id(p->ids[i])->length;
+    uint64_t data = p->block_size - sum, blocks = (p->file.length + data - 1) / data;
+    return LEAST_HEADER + sum + p->signature_length + blocks * p->block_size;
+}
+
+int job_pack(const struct request *request)
+{
+    struct report r = new_report(request);
+    struct packing p = {.block_size = option_number(request, OPTION_BLOCK, 65536),
+                        .signature_length = option_number(request, OPTION_SIGNATURE, 512)};
+    const char *names = request->value[OPTION_HASH];
+    read_hashes(names ? names : "sha512", p.ids);
+    p.file = r.call.image = read_file(request->operand, LARGEST);
+    r.call.signature_length = p.signature_length;
+    struct bytes image = {NULL, 0};
+    uint64_t code = pack_into(&p, image);
+    if (code == RUNNELPIN_OUTPUT_LENGTH) {
+        image = zeros(packed_length(&p));
+        code = pack_into(&p, image);
+    }
+    r.call.answer.code = code;
+    if (!code) {
+        write_file(request->value[OPTION_OUTPUT], image);
+        say(&r.words, "done: an image of %zu bytes, %" PRIu64 " blocks of %" PRIu64 ", padding %" PRIu64, image.length,
+            field(image.at, FIELD_BLOCK_COUNT), p.block_size, field(image.at, FIELD_PADDING));
+        say(note(&r), "the signature field, %" PRIu64 " bytes, is zero", p.signature_length);
+    }
+    return finish(&r);
+}

@@ -1,0 +1,62 @@
+#define _DEFAULT_SOURCE /* isatty */
+#include "report.h"
+
+#include "fail.h"
+#include "json.h"
+
+#include <inttypes.h>
+#include <stdio.h>
+#include <unistd.h>
+
+struct report new_report(const struct request *request)
+{
+    struct report r = {.request = request, .call = new_call()};
+    return r;
+}
+
+struct text *note(struct report *r)
+{
+    return &r->notes[r->notes_made++];
+}
+
+static void print_json(const struct report *r)
+{
+    const struct answer *a = &r->call.answer;
+    if (!json_depth())
+        json_open(NULL, '{');
+    json_number("code", a->code);
+    json_number("place", a->place);
+    json_number("commands", a->commands);
+    json_number("stored", a->stored);
+    json_number("entry", a->entry);
+    json_text("words", &r->words);
+    json_open("notes", '[');
+    for (int i = 0; i < r->notes_made; i++)
+        json_text(NULL, &r->notes[i]);
+    json_close(']');
+    json_close('}');
+}
+
+static void print_text(const struct report *r)
+{
+    puts(r->words.at);
+    for (int i = 0; i < r->notes_made; i++)
+        puts(r->notes[i].at);
+}
+
+int finish(struct report *r)
+{
+    int is_refused = r->call.answer.code != 0, is_json = r->request->value[OPTION_JSON] != NULL;
+    if (is_refused)
+        say_refusal(&r->words, &r->call);
+    if (is_json)
+        print_json(r);
+    else
+        print_text(r);
+    if (fflush(stdout) || ferror(stdout))
+        fail("standard output can't be written");
+    /* A terminal that shows both doesn't need the words twice. */
+    if (is_refused && (is_json || !isatty(STDOUT_FILENO) || !isatty(STDERR_FILENO)))
+        fprintf(stderr, "runnelpin: %s: %s\n", r->request->operand, r->words.at);
+    return is_refused ? STATUS_REFUSED : STATUS_DONE;
+}

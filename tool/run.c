@@ -1,0 +1,67 @@
+#include "files.h"
+#include "host.h"
+#include "image.h"
+#include "jobs.h"
+#include "lists.h"
+#include "runnelpin.h"
+#include "taking.h"
+
+#include <inttypes.h>
+#include <string.h>
+
+#define MOST_MEMORY ((uint64_t)1 << 32)
+
+/* Memory has the bytes that are given, else as many zeros as the map's regions have bytes. */
+static void take_board(struct report *r)
+{
+    struct board *b = &r->call.board;
+    const char *const *value = r->request->value;
+    b->map = read_map(value[OPTION_MAP]);
+    if (value[OPTION_CPUID])
+        b->table = strcmp(value[OPTION_CPUID], "host") ? read_table(value[OPTION_CPUID]) : host_table(note(r));
+    b->mode = option_number(r->request, OPTION_MODE, 64);
+    if (value[OPTION_MEMORY]) {
+        b->memory = read_file(value[OPTION_MEMORY], MOST_MEMORY);
+    } else {
+        struct text fault = {NULL, 0}; /* the library refuses such a map, whatever memory is */
+        b->memory = zeros(map_total(b->map, &fault));
+    }
+}
+
+static int finish_run(struct report *r, const uint8_t *record)
+{
+    const struct answer *a = &r->call.answer;
+    r->call.answer = read_answer(record);
+    give_output(r, r->call.board.memory);
+    if (!a->code)
+        say(&r->words, "done: %" PRIu64 " commands, %" PRIu64 " bytes stored, entry 0x%" PRIx64, a->commands, a->stored,
+            a->entry);
+    return finish(r);
+}
+
+int job_load(const struct request *request)
+{
+    struct report r = new_report(request);
+    const struct call *c = &r.call;
+    const struct board *b = &c->board;
+    uint8_t record[RUNNELPIN_ANSWER_BYTES];
+    take_image(&r);
+    take_board(&r);
+    runnelpin_load(c->image.at, c->image.length, c->header.at, c->header.length, b->map.at, b->map.length, b->table.at,
+                   b->table.length, b->mode, c->signature_length, b->memory.at, b->memory.length, record,
+                   sizeof record);
+    return finish_run(&r, record);
+}
+
+int job_run(const struct request *request)
+{
+    struct report r = new_report(request);
+    const struct call *c = &r.call;
+    const struct board *b = &c->board;
+    uint8_t record[RUNNELPIN_ANSWER_BYTES];
+    r.call.image = read_file(request->operand, LARGEST);
+    take_board(&r);
+    runnelpin_run(c->image.at, c->image.length, b->map.at, b->map.length, b->table.at, b->table.length, b->mode,
+                  b->memory.at, b->memory.length, record, sizeof record);
+    return finish_run(&r, record);
+}

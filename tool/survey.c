@@ -1,0 +1,49 @@
+#include "survey.h"
+
+#include "runnelpin.h"
+
+/* How many blocks of those that the header counts the image has whole. */
+static uint64_t whole_blocks(struct bytes image)
+{
+    uint64_t before = field(image.at, FIELD_HEADER_SIZE) + field(image.at, FIELD_SIGNATURE_LENGTH);
+    uint64_t blocks = field(image.at, FIELD_BLOCK_COUNT), size = field(image.at, FIELD_BLOCK_SIZE);
+    uint64_t whole = image.length < before ? 0 : (image.length - before) / size;
+    return whole < blocks ? whole : blocks;
+}
+
+/* Opens the image with its own header. */
+static struct answer open_whole(struct bytes image)
+{
+    struct bytes header = own_header(image), file = zeros(stream_of_image(image).length);
+    uint8_t record[RUNNELPIN_ANSWER_BYTES];
+    runnelpin_open(image.at, image.length, header.at, header.length, field(image.at, FIELD_SIGNATURE_LENGTH), file.at,
+                   file.length, record, sizeof record);
+    return read_answer(record);
+}
+
+/* Opens the image as if its whole blocks were all that its header counts. */
+static struct answer open_cut(struct bytes image, uint64_t whole)
+{
+    uint8_t *count = image.at + field_forms[FIELD_BLOCK_COUNT].at;
+    size_t width = field_forms[FIELD_BLOCK_COUNT].width;
+    uint64_t blocks = little(count, width);
+    put_little(count, width, whole);
+    image.length = image_length(image.at);
+    struct answer answer = open_whole(image);
+    put_little(count, width, blocks);
+    /* The hash field of the last block here is only that of the next one, which is cut off. */
+    if (whole < blocks && answer.code == RUNNELPIN_LAST_HASH)
+        answer.code = RUNNELPIN_DONE;
+    return answer;
+}
+
+struct survey survey_blocks(struct bytes image)
+{
+    struct survey s = {.blocks = field(image.at, FIELD_BLOCK_COUNT), .whole = whole_blocks(image)};
+    if (s.whole)
+        s.stop = open_cut(image, s.whole);
+    s.proved = s.stop.code ? s.stop.place - 1 : s.whole;
+    s.file = stream_of_image(image);
+    s.file.known = bytes_before_block(&s.file, s.proved + 1);
+    return s;
+}

@@ -1,0 +1,18 @@
+/* What several subcommands do alike: reading what a call is given, writing what it gave. */
+#ifndef TAKING_H
+#define TAKING_H
+
+#include "report.h"
+
+extern const char not_approved[];
+
+/* The image that is named, the approved header and the signature length that is expected. */
+void take_image(struct report *report);
+
+/* The length that is asked for, else the header's own, which a note says. */
+void take_signature_length(struct report *report);
+
+/* Writes the output that is asked for, where the job is done or where part of it is wanted on a refusal. */
+void give_output(struct report *report, struct bytes output);
+
+#endif
