@@ -42,3 +42,11 @@ struct slice boot_cpuid(void)
     }
     return table;
 }
+
+int boot_is_ram(struct slice map, uint64_t address)
+{
+    for (size_t at = 0; at < map.length; at += 16)
+        if (address - boot_number(map.at + at, 8) < boot_number(map.at + at + 8, 8))
+            return 1;
+    return 0;
+}

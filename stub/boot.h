@@ -33,6 +33,9 @@ struct slice boot_cpuid(void);
 /* The number that at most eight little-endian bytes spell. */
 uint64_t boot_number(const uint8_t *bytes, size_t length);
 
+/* Whether a region of the map has this address: an entry need not have one, but nothing was loaded elsewhere. */
+int boot_is_ram(struct slice map, uint64_t address);
+
 /* Starts what was loaded: the entry becomes the instruction pointer, every other register is zero. */
 void boot_hand_off(uint64_t entry) __attribute__((noreturn));
 

@@ -69,6 +69,8 @@ void demo(void)
         end(answer.code);
     if (!is_refused(refusal, header))
         end(STATUS_DAMAGED);
+    if (!boot_is_ram(unit.map, answer.entry))
+        end(STATUS_ENTRY);
     place_regions();
     boot_hand_off(answer.entry);
 }

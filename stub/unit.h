@@ -9,7 +9,10 @@
 #define HIGH_LENGTH 0x2000
 #define MEMORY_LENGTH (LOW_LENGTH + HIGH_LENGTH)
 
-#define ENTRY (LOW_BASE + 0x100)
+#define PAYLOAD (LOW_BASE + 0x100)
+#ifndef ENTRY
+#define ENTRY PAYLOAD
+#endif
 #define MARK 0x6e6e7552 /* written at HIGH_BASE */
 #define FILL_COUNT 0x1800 /* filled at the end of the high region, with FILL_PATTERN */
 #define FILL_PATTERN 0x5a
@@ -23,5 +26,6 @@
 #define STATUS_MEMORY 102    /* entered, and its bytes do not stand at their addresses */
 #define STATUS_DAMAGED 103   /* the damaged image got another answer than its own */
 #define STATUS_PLACING 104   /* the regions could not be brought to their addresses */
+#define STATUS_ENTRY 105     /* loaded, and the entry is no RAM: the library allows it, this stub does not */
 
 #endif
