@@ -13,7 +13,7 @@ use Rattle.answers.specs.declared.Answer.{Answer}
 use Rattle.chain.specs.Blocks.{blockCode, proved, fileUpTo, fileBytes}
 use Rattle.chain.proofs.BlockLaws.{file-more, proved-le, proved-more, stops, goes-on}
 use Rattle.chain.proofs.HeaderLaws.{Passed}
-use Rattle.machine.specs.Machine.{Job, State, Store, begun, run, trace, answerWith, answerOr}
+use Rattle.machine.specs.Machine.{State, Store, begun, run, trace, answerWith, answerOr}
 use Rattle.machine.specs.declared.Phase.{Phase}
 use Rattle.machine.specs.declared.Phase.the-variants.{Magic, Header, Parameters, Storing, Skipping, Stopped}
 use Rattle.machine.proofs.Runs.{run-append, trace-append, run-stopped, trace-stopped}

@@ -1,7 +1,7 @@
 -- Load, taken apart: what passing its rules means, its answer and its stores, and the three ways that it goes.
 use mathlib.Core.Bool.{Bool, true, false}
-use mathlib.Core.Path.{_≡_, refl, sym, ap, subst, _∙_}
-use mathlib.Core.List.{List, [], _∷_, _++_}
+use mathlib.Core.Path.{_≡_, refl, ap, subst, _∙_}
+use mathlib.Core.List.{List, [], _++_}
 use mathlib.Core.Logic.{_⊎_, inl, inr, _≢_}
 use Prim.Native.Nat.{ℕ, suc, _+_, _*_, _≤_, _<_}
 use native.Mathlib.Nat.{le-of-lt, mul-le-mul-right, suc-mul}
@@ -16,9 +16,8 @@ use Rattle.answers.specs.declared.Answer.{Answer}
 use Rattle.answers.proofs.RuleLaws.{first-broken-has}
 use Rattle.board.specs.Cpuid.{tableRules}
 use Rattle.board.specs.Map.{regions, mapRules}
-use Rattle.board.proofs.MapLaws.{MapTaken, map-means}
-use Rattle.chain.specs.Blocks.{blockRules, blockCode, expected, proved, fileUpTo}
-use Rattle.chain.specs.Header.{headerOf, fileLength, blocksStart, imageRules}
+use Rattle.chain.specs.Blocks.{blockRules, blockCode, expected, fileUpTo}
+use Rattle.chain.specs.Header.{fileLength, blocksStart, imageRules}
 use Rattle.chain.proofs.BlockLaws.{proved-le, fails, length-file}
 use Rattle.chain.proofs.GivenCodes.{code-passes}
 use Rattle.chain.proofs.HeaderLaws.{Allowed, allowed, Passed, passed}
@@ -29,7 +28,7 @@ use Rattle.machine.specs.Memory.{applied}
 use Rattle.machine.specs.declared.Phase.{Phase}
 use Rattle.machine.specs.declared.Phase.the-variants.{Magic, Header, Parameters, Storing, Skipping, Stopped}
 use Rattle.machine.proofs.ReachedLaws.{reached-ended, whole-stopped}
-use Rattle.machine.proofs.Standing.{Ended, Running, running-or-stopped}
+use Rattle.machine.proofs.Standing.{Ended, Running, running-or-stopped, pick-cases}
 use Rattle.loader.specs.Load.{Offer, loadRules, header, block, job, provedBlocks, ended, stores, stateAfter, loadAnswer, loaded}
 
 -- ---- what is offered, where 1 to 12 are not given
@@ -117,6 +116,11 @@ load-answered o memory held fits =
           lent = applied (regions (o .map)) memory (storesMade o (length memory));
         }
 
+-- 0 is returned only where it is the answer
+pub answered-zero : (held : List ℕ) (a : Answer) (before after : List ℕ) → answered held a before after .code ≡ 0 → a .code ≡ 0
+answered-zero held a before after =
+    pick-cases (λ (x : Outcome). x .code ≡ 0 → a .code ≡ 0) (eqb (length held) 40) _ _ (λ e z. z) (λ e z. absurd (omega arith))
+
 -- ---- the three ways that load goes
 
 -- a run that has not stopped has the given answer
@@ -131,6 +135,17 @@ running-answer (Stopped c p) code place s r = absurd r
 module _ (o : Offer) where
   abbrev pub badCode : ℕ
   badCode = blockCode (header o) (block o) (provedBlocks o)
+
+  -- the machine's stop is the answer; where it has not stopped, the first bad block
+  pub answer-ways : ((code : ℕ) × (place : ℕ) × (ended o .phase ≡ Stopped code place) × (loadAnswer o ≡ answerWith code place (ended o)))
+      ⊎ (Running (ended o .phase) × (loadAnswer o ≡ answerWith badCode (suc (provedBlocks o)) (ended o)))
+  answer-ways = go (running-or-stopped (ended o .phase))
+    where
+      go : Running (ended o .phase) ⊎ ((c : ℕ) × (p : ℕ) × (ended o .phase ≡ Stopped c p))
+          → ((code : ℕ) × (place : ℕ) × (ended o .phase ≡ Stopped code place) × (loadAnswer o ≡ answerWith code place (ended o)))
+          ⊎ (Running (ended o .phase) × (loadAnswer o ≡ answerWith badCode (suc (provedBlocks o)) (ended o)))
+      go (inr (c, p, e)) = inl (c, p, e, ap (λ (q : Phase). answerOr q badCode (suc (provedBlocks o)) (ended o)) e)
+      go (inl r) = inr (r, running-answer (ended o .phase) badCode (suc (provedBlocks o)) (ended o) r)
 
   -- refused before any block is looked at; stopped by the machine over the proved blocks; or by the first bad block
   pub load-cases : (P : Answer → List Store → Type 0) (memory : ℕ) → ((code : ℕ) → 1 ≤ code → code ≤ 12 → P (refused code) [])
@@ -153,12 +168,13 @@ module _ (o : Offer) where
           (blockRules (header o) (provedBlocks o) (expected (header o) (block o) (provedBlocks o)) (block o (provedBlocks o)))
           (λ z. absurd (z refl)) (λ z. (lit≤ tt, lit≤ tt), (λ z. (lit≤ tt, lit≤ tt), (λ z. (lit≤ tt, lit≤ tt), tt))) n
 
-      looked : Taken o memory → Running (ended o .phase) ⊎ ((c : ℕ) × (p : ℕ) × (ended o .phase ≡ Stopped c p)) → P (loadAnswer o) (stores o)
-      looked t (inr (c, p, e)) =
-          rw (ap (λ (q : Phase). answerOr q badCode (suc (provedBlocks o)) (ended o)) e)
-          (g t c p e (reached-ended (job o) (ended o) (fileUpTo (header o) (block o) (provedBlocks o), refl) e))
-      looked t (inl r) =
-          rw (running-answer (ended o .phase) badCode (suc (provedBlocks o)) (ended o) r)
+      looked : Taken o memory
+          → ((c : ℕ) × (p : ℕ) × (ended o .phase ≡ Stopped c p) × (loadAnswer o ≡ answerWith c p (ended o)))
+          ⊎ (Running (ended o .phase) × (loadAnswer o ≡ answerWith badCode (suc (provedBlocks o)) (ended o))) → P (loadAnswer o) (stores o)
+      looked t (inl (c, p, e, a)) =
+          rw a (g t c p e (reached-ended (job o) (ended o) (fileUpTo (header o) (block o) (provedBlocks o), refl) e))
+      looked t (inr (r, a)) =
+          rw a
           (let c = block-codes (fails (header o) (block o) (header o .count) some-bad) in
           h t some-bad r (c .0) (c .1))
         where
@@ -171,5 +187,5 @@ module _ (o : Offer) where
           some-bad = let n = not-all in omega (arith, proved-le (header o) (block o) (header o .count))
 
       go : (b : Bool) → eqb code 0 ≡ b → P (pick b (loadAnswer o) (refused code)) (pick b (stores o) [])
-      go true e = looked (taken o memory (eqb-true code 0 e)) (running-or-stopped (ended o .phase))
+      go true e = looked (taken o memory (eqb-true code 0 e)) answer-ways
       go false e = f code (omega (arith, eqb-false code 0 e)) few
