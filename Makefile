@@ -1,4 +1,4 @@
-.PHONY: help test prove archives tool bench
+.PHONY: help test prove archives tool stub bench
 
 help: ## print this
 	@sed -n 's/^\([a-z]*\):.*## /make \1: /p' Makefile
@@ -24,6 +24,9 @@ build/runnelpin: $(TOOL_PARTS)
 # The same for the tests, ended by an address or an overflow that C leaves undefined.
 build/runnelpin-watched: $(TOOL_PARTS)
 	@$(TOOL) -O1 -g -fsanitize=address,undefined -fno-sanitize-recover=all
+
+stub: archives ## the example boot stub, built and run, and the stack that each call needs
+	@tools/stub && tools/stack
 
 bench: archives ## the library's speed against plain Rust, and OpenSSL where it is
 	@cd tests && cargo run --quiet --release --bin bench
