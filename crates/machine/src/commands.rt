@@ -8,7 +8,7 @@ ghost use lib.ListN.{length};
 ghost use Rattle.answers.specs.Rules.{firstBroken};
 ghost use Rattle.board.specs.Board.{boardOf};
 ghost use Rattle.board.specs.Cpuid.{leaves, lookup};
-ghost use Rattle.board.specs.Map.{ordered, regions};
+ghost use Rattle.board.specs.Map.{ordered, regions, limit, reachable};
 ghost use Rattle.machine.specs.Code.{foundCode};
 ghost use Rattle.machine.specs.Commands.{command, unknown, wrongLength, headerRules, hasZero, rangeRules, entryRules, checkRules, eax, ecx, resultRegister};
 use crate::Command;
@@ -81,7 +81,7 @@ pub fn range_code(map: &[u8], mode: u64, a: u64, n: u64) -> u64
     requires { ⌜ ordered 0 (regions (now map)) ≡ true ⌝ }
     ensures { λ r. ⌜ ((table : List ℕ) → r ≡ firstBroken (rangeRules (boardOf (now (map .entry)) table mode) a n)) ⌝ }
 {
-    if !reach::is_reachable(reach::reach_limit(mode), a, n) {
+    if !reaches(mode, a, n) {
         return codes::NOT_REACHABLE;
     }
     if !map::is_ram(map, a, n) {
@@ -94,10 +94,17 @@ pub fn range_code(map: &[u8], mode: u64, a: u64, n: u64) -> u64
 pub fn entry_code(mode: u64, a: u64) -> u64
     ensures { λ r. ⌜ ((map table : List ℕ) → r ≡ firstBroken (entryRules (boardOf map table mode) a)) ⌝ }
 {
-    if !reach::is_reachable(reach::reach_limit(mode), a, 1) {
+    if !reaches(mode, a, 1) {
         return codes::NOT_REACHABLE;
     }
     codes::DONE
+}
+
+// Whether a mode reaches a range.
+fn reaches(mode: u64, a: u64, n: u64) -> bool
+    ensures { λ r. ⌜ r ≡ reachable (limit mode) a n ⌝ }
+{
+    reach::is_reachable(reach::reach_limit(mode), a, n)
 }
 
 // What a check, whose bytes from its first one on are `c`, is judged by.

@@ -61,6 +61,18 @@ pub fn with_stored(t: Tally, n: u64) -> Tally
     }
 }
 
+// The last entry counts.
+pub fn with_entry(t: Tally, address: u64) -> Tally
+    ensures { λ r. ⌜ r ≡ spec.withEntry address t ⌝ }
+{
+    Tally {
+        commands: t.commands,
+        stored: t.stored,
+        entry: address,
+        entered: true,
+    }
+}
+
 // A command that breaks a rule stops the run at its first byte.
 pub fn refused(c: Control, code: u64) -> Control
     ensures { λ r. ⌜ Steps c r (spec.stopped code (c .start)) ⌝ }
@@ -235,16 +247,16 @@ pub fn write_read(c: Control, held: &[u8], size: u64, map: &[u8], mode: u64) -> 
     requires { ⌜ (c .kept ≡ 24) × (length (now held) ≡ 104) × Roomy c size × (8 ≤ dataLength (stateOf c (now held) .held)) × (ordered 0 (regions (now map)) ≡ true) ⌝ }
     ensures { λ r. ⌜ ((table : List ℕ) → spec.writeRead (jobOf size (now (map .entry)) table mode) (stateOf c (now (held .entry))) ≡ spec.still (stateOf r (now (held .entry)))) ⌝ }
 {
-    let n = numbers::little8(held, 8) - 8;
+    let left = numbers::little8(held, 8) - 8;
     let address = numbers::little8(held, 16);
-    let code = commands::range_code(map, mode, address, n);
+    let code = commands::range_code(map, mode, address, left);
     if code != codes::DONE {
         return refused(c, code);
     }
-    if n == 0 {
+    if left == 0 {
         return finished(c, size);
     }
-    turned(c, Phase::Storing { address, left: n })
+    turned(c, Phase::Storing { address, left })
 }
 
 pub fn entry_read(c: Control, held: &[u8], size: u64, mode: u64) -> Control
@@ -256,10 +268,7 @@ pub fn entry_read(c: Control, held: &[u8], size: u64, mode: u64) -> Control
     if code != codes::DONE {
         return refused(c, code);
     }
-    let mut tally = c.tally;
-    tally.entry = address;
-    tally.entered = true;
-    finished(tallied(c, tally), size)
+    finished(tallied(c, with_entry(c.tally, address)), size)
 }
 
 pub fn check_read(c: Control, held: &[u8], size: u64, table: &[u8]) -> Control

@@ -194,13 +194,13 @@ fn skipped(c: Control, left: u64, n: u64, size: u64) -> Control
 }
 
 // The fewer of the bytes wanted and those at hand.
-fn fewer(wanted: u64, at_hand: usize) -> usize
-    ensures { λ r. ⌜ r ≡ min wanted «at_hand» ⌝ }
+fn fewer(wanted: u64, there: usize) -> usize
+    ensures { λ r. ⌜ r ≡ min wanted there ⌝ }
 {
-    if wanted < (at_hand as u64) {
+    if wanted < (there as u64) {
         return wanted as usize;
     }
-    at_hand
+    there
 }
 
 // How many of its data bytes a command is judged by.

@@ -1,4 +1,4 @@
-use mathlib.Core.Path.{_≡_, sym, ap, _∙_}
+use mathlib.Core.Path.{_≡_, refl, sym, ap, _∙_}
 use mathlib.Core.List.{List}
 use Prim.Native.Nat.{ℕ}
 use borrow.Author.Needs.{needs}
@@ -10,48 +10,42 @@ use Rattle.machine.proofs.CodeLaws.{skip-none, skip-some}
 use Rattle.machine.proofs.steps.passed.Statement.{statement}
 use Rattle.machine.proofs.steps.passed.Tie as tie
 
+same : (s : tie.Start) (unit : Board) (h : List ℕ) {k : Command} → s .args .k ≡ k
+    → spec.passed (jobOn unit (s .args .size)) k (s .args .n) (stateOf (s .args .c) h) ≡ spec.passed (jobOn unit (s .args .size)) (s .args .k) (s .args .n) (stateOf (s .args .c) h)
+same s unit h e = sym (ap (λ (j : Command). spec.passed (jobOn unit (s .args .size)) j (s .args .n) (stateOf (s .args .c) h)) e)
+
 -- the commands that wait for what they are judged by
-returns : tie.Need-returns
+write : tie.Need-returns
 unfolding spec.passed
-returns c unit h =
-    let a = c .before .before .before .args in
-    c .turned .ensures h ∙ sym (ap (λ (k : Command). spec.passed (jobOn unit (a .size)) k (a .n) (stateOf (a .c) h)) (c .before .enum-told .given .1))
+write c unit h = c .turned .ensures h ∙ same (c .before .before .before) unit h (c .before .enum-told .given .1)
 
-returns-2 : tie.Need-returns-2
+fill : tie.Need-returns-2
 unfolding spec.passed
-returns-2 c unit h =
-    let a = c .before .before .before .args in
-    c .turned2 .ensures h ∙ sym (ap (λ (k : Command). spec.passed (jobOn unit (a .size)) k (a .n) (stateOf (a .c) h)) (c .before .enum-told2 .given .1))
+fill c unit h = c .turned2 .ensures h ∙ same (c .before .before .before) unit h (c .before .enum-told2 .given .1)
 
-returns-3 : tie.Need-returns-3
+entry : tie.Need-returns-3
 unfolding spec.passed
-returns-3 c unit h =
-    let a = c .before .before .before .args in
-    c .turned3 .ensures h ∙ sym (ap (λ (k : Command). spec.passed (jobOn unit (a .size)) k (a .n) (stateOf (a .c) h)) (c .before .enum-told3 .given .1))
+entry c unit h = c .turned3 .ensures h ∙ same (c .before .before .before) unit h (c .before .enum-told3 .given .1)
 
-returns-4 : tie.Need-returns-4
+check : tie.Need-returns-4
 unfolding spec.passed
-returns-4 c unit h =
-    let a = c .before .before .before .args in
-    c .turned4 .ensures h ∙ sym (ap (λ (k : Command). spec.passed (jobOn unit (a .size)) k (a .n) (stateOf (a .c) h)) (c .before .enum-told4 .given .1))
+check c unit h = c .turned4 .ensures h ∙ same (c .before .before .before) unit h (c .before .enum-told4 .given .1)
 
-returns-5 : tie.Need-returns-5
-returns-5 c unit h =
+skip-nothing : tie.Need-returns-5
+skip-nothing c unit h =
     let a = c .before .before .before .before .args in
     c .finished .ensures unit h
     ∙ sym (skip-none (jobOn unit (a .size)) (a .n) (stateOf (a .c) h) (c .before .before .enum-told5 .given .1) (c .before .if1 .taken))
 
-returns-6 : tie.Need-returns-6
-returns-6 c unit h =
+skip : tie.Need-returns-6
+skip c unit h =
     let a = c .before .before .before .before .args in
     c .turned5 .ensures h
     ∙ sym (skip-some (jobOn unit (a .size)) (a .n) (stateOf (a .c) h) (c .before .before .enum-told5 .given .1) (c .before .if1 .left))
 
-returns-7 : tie.Need-returns-7
+unknown : tie.Need-returns-7
 unfolding spec.passed
-returns-7 c unit h =
-    let a = c .before .before .args in
-    sym (ap (λ (k : Command). spec.passed (jobOn unit (a .size)) k (a .n) (stateOf (a .c) h)) (c .enum-told6 .given .1))
+unknown c unit h = same (c .before .before) unit h (c .enum-told6 .given .1)
 
 pub passed-spec : {M : Type 1} → statement M
 passed-spec =
@@ -69,10 +63,10 @@ passed-spec =
     (λ c κs. search needs)
     (λ c κs. search needs)
     (λ c. search needs)
-    returns
-    returns-2
-    returns-3
-    returns-4
-    returns-5
-    returns-6
-    returns-7)
+    write
+    fill
+    entry
+    check
+    skip-nothing
+    skip
+    unknown)
