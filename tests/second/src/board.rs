@@ -46,27 +46,31 @@ impl Board {
         })
     }
 
+    /// An empty range is reachable below the limit, any other where its end is at most the limit.
     pub fn reachable(&self, address: u64, n: u64) -> bool {
-        u128::from(address) + u128::from(n.max(1)) <= self.limit
-    }
-
-    /// Whether each byte of the range lies in a region: the regions ascend, so the first address
-    /// that none has met so far moves up through them.
-    pub fn ram(&self, address: u64, n: u64) -> bool {
-        let mut uncovered = u128::from(address);
-        for region in &self.regions {
-            if region.base <= uncovered && uncovered < region.end {
-                uncovered = region.end;
-            }
+        let (address, n) = (u128::from(address), u128::from(n));
+        match n {
+            0 => address < self.limit,
+            _ => address + n <= self.limit,
         }
-        n == 0 || u128::from(address) + u128::from(n) <= uncovered
     }
 
-    /// The memory byte of a RAM address. Along a RAM range memory bytes follow one another.
+    /// Whether each byte of the range lies in a region: no two regions share a byte, so what the
+    /// range has in common with each adds up to all of it.
+    pub fn ram(&self, address: u64, n: u64) -> bool {
+        let (from, n) = (u128::from(address), u128::from(n));
+        let common = |r: &Region| r.end.min(from + n).saturating_sub(r.base.max(from));
+        self.regions.iter().map(common).sum::<u128>() == n
+    }
+
+    /// The memory byte of a RAM address: its distance from its region's base, behind the bytes of
+    /// the regions before. Along a RAM range memory bytes follow one another.
     pub fn memory_byte(&self, address: u64) -> usize {
         let address = u128::from(address);
-        let below = self.regions.iter().take_while(|r| r.base <= address);
-        below.map(|r| r.end.min(address) - r.base).sum::<u128>() as usize
+        let holds = |r: &Region| r.base <= address && address < r.end;
+        let at = self.regions.iter().position(holds).expect("a RAM address");
+        let before: u128 = self.regions[..at].iter().map(|r| r.end - r.base).sum();
+        (before + address - self.regions[at].base) as usize
     }
 
     /// The four results of the record with both inputs.
