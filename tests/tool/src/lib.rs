@@ -3,3 +3,4 @@
 pub mod calls;
 pub mod desk;
 pub mod json;
+pub mod sample;
