@@ -1,0 +1,133 @@
+//! Signed for real: by GnuPG with a key made for the test, approved by gpgv, and loaded.
+
+use std::path::Path;
+use std::process::Command;
+use tool::desk::{repository, tool, Desk, Said};
+use tool::sample;
+
+/// Runs one of the repository's scripts in the folder.
+fn script(desk: &Desk, name: &str, words: &[&str]) -> Said {
+    let mut command = Command::new(repository().join("tools").join(name));
+    command.args(words).env("RUNNELPIN", tool());
+    desk.start(command)
+}
+
+fn approve(desk: &Desk, image: &str, header: &str) -> Said {
+    script(desk, "approve", &["public.gpg", image, header])
+}
+
+/// The sample, signed, and the public key.
+fn signed() -> Desk {
+    let desk = sample::desk();
+    let sign = repository().join("tools/sign");
+    let line = format!(
+        "stat -c %a \"$GNUPGHOME\" && cp \"$GNUPGHOME/public.gpg\" . && \
+         {} 'Runnelpin demo' file signed --hash sha256,sha512 --block 200",
+        sign.display()
+    );
+    let said = script(&desk, "with-key", &["sh", "-c", &line]);
+    assert_eq!(said.status, 0, "{said:?}");
+    assert!(said.out.starts_with("700\n"), "{said:?}");
+    desk
+}
+
+#[test]
+fn a_signed_image_is_approved_and_loads() {
+    let desk = signed();
+    let said = approve(&desk, "signed", "approved");
+    assert_eq!(said.status, 0, "{said:?}");
+    let (image, header) = (desk.get("signed"), desk.get("approved"));
+    assert_eq!(header, image[..36 + 32 + 64]);
+    let words = "load signed --header approved --map map --cpuid table --json";
+    let json = desk.run(words).json();
+    let numbers = ["code", "commands", "entry"].map(|key| json[key].number());
+    assert_eq!(numbers, [0, 5, 0x100010]);
+}
+
+#[test]
+fn one_bit_changed_and_nothing_is_approved() {
+    let desk = signed();
+    let image = desk.get("signed");
+    let (header, signature) = (36 + 32 + 64, 12);
+    for at in (0..header + signature).step_by(3) {
+        let mut bad = image.clone();
+        bad[at] ^= 1 << (at % 8);
+        desk.put("bad", bad);
+        let said = approve(&desk, "bad", "approved");
+        assert_ne!(said.status, 0, "byte {at}: {said:?}");
+        assert!(!desk.has("approved"), "byte {at}");
+    }
+    let mut bad = image;
+    *bad.last_mut().unwrap() ^= 1;
+    desk.put("bad", bad);
+    assert_eq!(
+        approve(&desk, "bad", "approved").status,
+        0,
+        "blocks are the loader's"
+    );
+    let said = desk.run("load bad --header approved --map map --cpuid table");
+    assert!(said.out.starts_with("refused: 13, "), "{said:?}");
+}
+
+#[test]
+fn another_key_approves_nothing() {
+    let (desk, other) = (signed(), signed());
+    desk.put("public.gpg", other.get("public.gpg"));
+    assert_ne!(approve(&desk, "signed", "approved").status, 0);
+    assert_ne!(
+        approve(&desk, "image", "approved").status,
+        0,
+        "a field of zeros"
+    );
+    assert!(!desk.has("approved"));
+}
+
+#[test]
+fn the_keys_home_goes_whatever_happens() {
+    let desk = Desk::new();
+    for (line, status) in [
+        ("true", 0),
+        ("exit 7", 7),
+        ("kill -TERM $PPID; sleep 1", 143),
+    ] {
+        let line = format!("echo \"$GNUPGHOME\"; {line}");
+        let said = script(&desk, "with-key", &["sh", "-c", &line]);
+        assert_eq!(said.status, status, "{said:?}");
+        let home = said.out.trim();
+        assert!(!home.is_empty() && !Path::new(home).exists(), "{said:?}");
+        let processes = desk.shell("ps -eo args").out;
+        assert!(!processes.contains(home), "an agent is left");
+    }
+}
+
+/// A gpg whose signatures are never as long as the one before.
+const RESTLESS: &str = "#!/bin/sh
+while [ $# -gt 0 ]; do [ \"$1\" = --output ] && out=$2; shift; done
+echo >>signings
+head -c $((300 + $(wc -l <signings))) /dev/zero >\"$out\"
+";
+
+#[test]
+fn signing_gives_up_after_20_signatures() {
+    let desk = sample::desk();
+    desk.put("gpg", RESTLESS);
+    let sign = repository().join("tools/sign");
+    let said = desk.shell(&format!(
+        "chmod +x gpg; PATH=.:$PATH RUNNELPIN={} {} key file signed",
+        tool().display(),
+        sign.display()
+    ));
+    assert!(said.status == 1 && !desk.has("signed"), "{said:?}");
+    assert_eq!(desk.get("signings").len(), 20);
+}
+
+#[test]
+fn bad_usage_of_the_scripts() {
+    let desk = sample::desk();
+    assert_eq!(script(&desk, "sign", &["key", "file"]).status, 2);
+    assert_eq!(script(&desk, "approve", &["public.gpg"]).status, 2);
+    let said = script(&desk, "sign", &["nobody", "file", "signed"]);
+    assert!(said.status != 0 && !desk.has("signed"), "{said:?}");
+    let said = script(&desk, "approve", &["nothing", "image", "approved"]);
+    assert!(said.status != 0 && !desk.has("approved"), "{said:?}");
+}
