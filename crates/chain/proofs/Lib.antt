@@ -10,6 +10,7 @@ pub mod OpenedPacks
 pub mod OpeningLaws
 pub mod PackLaws
 pub mod PackedOpens
+pub mod PackingLaws
 pub mod PassLaws
 pub mod RuleLaws
 pub mod SignatureLaws

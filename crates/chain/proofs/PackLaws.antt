@@ -84,7 +84,7 @@ pub record Fewest (file room n : ℕ) : Type 0 where
   pub one : 0 < n
 
 module _ (file room : ℕ) (pos : 0 < room) where
-  fewest : 0 < file → Fewest file room ((file + room - 1) / room)
+  pub fewest : 0 < file → Fewest file room ((file + room - 1) / room)
   fewest some =
       let x : ℕ = file + room - 1 in
       let n : ℕ = x / room in

@@ -75,7 +75,7 @@ fn judged(h: Header, k: u64, expected: &[u8], block: &[u8]) -> u64
 }
 
 // How many bytes of padding block k has: only the first has any.
-fn padding_of(h: Header, k: u64) -> u32
+pub fn padding_of(h: Header, k: u64) -> u32
     ensures { λ r. ⌜ (r ≡ spec.paddingOf (headerWith h []) k) × (r ≤ h .padding) ⌝ }
 {
     if k == 0 {

@@ -105,7 +105,7 @@ fn begins(image: &[u8], approved: &[u8]) -> bool
 }
 
 // The length of an image whose header takes `size` bytes. The product of two 32-bit numbers does not wrap.
-fn image_length(h: Header, size: u64) -> u64
+pub fn image_length(h: Header, size: u64) -> u64
     requires { ⌜ (size < 2 ^ 63) × (h .«block_size» ≤ 1048576) ⌝ }
     ensures { λ r. ⌜ r ≡ size + h .signature + h .count * h .«block_size» ⌝ }
 {

@@ -3,3 +3,4 @@ pub mod blocks;
 pub mod hashsum;
 pub mod header;
 pub mod open;
+pub mod pack;
