@@ -1,11 +1,12 @@
 -- What the code may do with an image that has passed, by the fields that it read: where its blocks and their file bytes lie.
 use mathlib.Core.Path.{_≡_, refl, sym, ap, ap₂, subst, _∙_}
-use mathlib.Core.Bool.{Bool}
+use mathlib.Core.Bool.{Bool, true, false}
 use mathlib.Core.List.{List, []}
 use Prim.Native.Nat.{ℕ, zero, suc, _+_, _-_, _*_, _≤_, _<_}
 use native.Mathlib.Nat.{mul-le-mul-right, suc-mul}
 use native.Mathlib.Omega.{arith}
-use borrow.Author.Tests.{eq-eqb, ne-eqb}
+use borrow.Author.Tests.{eq-eqb, ne-eqb, eqb-true, eqb-false}
+use lib.Dec.{eqb}
 use lib.ListN.{length, take, drop, length-drop}
 use lib.Seq.{take-all}
 use Rattle.octets.specs.Parts.{part}
@@ -14,9 +15,10 @@ use Rattle.answers.specs.Rules.{pick, firstBroken}
 use Rattle.chain.specs.Blocks.{blockOf, blockRules, blockCode, expected, hashField}
 use Rattle.chain.specs.Code.{Passes, HasBlock, Sized, headerWith}
 use Rattle.chain.specs.Header.{Header, headerOf, imageRules, streamRules, blocksStart, dataLength}
-use Rattle.chain.specs.Open.{fieldStart}
+use Rattle.chain.specs.Open.{fieldStart, signatureField}
 use Rattle.chain.specs.declared.header.Header.{Header as Fields}
-use Rattle.chain.proofs.HeaderLaws.{Sound, Passed, passed}
+use Rattle.chain.proofs.HeaderLaws.{Sound, Passed, passed, stream-passed}
+use Rattle.chain.proofs.SignatureLaws.{empty-field, whole-field}
 
 -- the signature length that was expected is the header's own
 pub passes-own : (image approved : List ℕ) (x : ℕ) → firstBroken (imageRules image approved x) ≡ 0 → Passes image approved
@@ -96,3 +98,35 @@ module _ (image approved : List ℕ) (x code : ℕ) (e : code ≡ firstBroken (s
   pub starts-behind : code ≡ 0 → fieldStart image approved x ≡ length approved
   starts-behind z =
       ap (λ (b : Bool). pick b (length approved) 0) (eq-eqb (firstBroken (streamRules image approved x)) 0 (sym e ∙ z))
+
+-- the field is empty just where it begins nowhere, and it is the part of the image from there on
+module _ (image approved : List ℕ) (x : ℕ) where
+  abbrev C : ℕ
+  C = firstBroken (streamRules image approved x)
+
+  filled : C ≡ 0 → length (signatureField image approved x) ≡ 0 → ⊥
+  filled e z =
+      let some : 0 < x = stream-passed image approved x e .0 .some in
+      omega (arith, whole-field image approved x e .1)
+
+  bare : (C ≡ 0 → ⊥) → length (signatureField image approved x) ≡ 0
+  bare n = ap length (empty-field image approved x n)
+
+  decided : (P : Type 0) → (C ≡ 0 → P) → ((C ≡ 0 → ⊥) → P) → P
+  decided P f g = go (eqb C 0) refl
+    where
+      go : (b : Bool) → eqb C 0 ≡ b → P
+      go true e = f (eqb-true C 0 e)
+      go false e = g (eqb-false C 0 e)
+
+  pub empty-starts : length (signatureField image approved x) ≡ 0 → fieldStart image approved x ≡ 0
+  empty-starts z = decided _ (λ e. absurd (filled e z)) (λ n. starts-nowhere image approved x C refl n)
+
+  pub filled-starts : (length (signatureField image approved x) ≡ 0 → ⊥) → fieldStart image approved x ≡ length approved
+  filled-starts n = decided _ (λ e. starts-behind image approved x C refl e) (λ m. absurd (n (bare m)))
+
+  pub field-part : part image (fieldStart image approved x) (length (signatureField image approved x)) ≡ signatureField image approved x
+  field-part =
+      decided _
+      (λ e. ap₂ (part image) (starts-behind image approved x C refl e) (whole-field image approved x e .1) ∙ sym (whole-field image approved x e .0))
+      (λ n. ap (part image (fieldStart image approved x)) (bare n) ∙ sym (empty-field image approved x n))

@@ -1,9 +1,12 @@
-ghost use mathlib.Core.List.{[]};
+ghost use mathlib.Core.Bool.{not, false};
+ghost use mathlib.Core.List.{[], _∷_};
 ghost use mathlib.Core.Path.{_≡_};
-ghost use Prim.Native.Nat.{_+_, _≤_, _<_};
+ghost use Prim.Native.Nat.{suc, _+_, _≤_, _<_};
 ghost use denote.Ref.{now};
 ghost use lib.ListN.{length};
-ghost use Rattle.answers.specs.Rules.{firstBroken};
+ghost use lib.Dec.{eqb};
+ghost use Rattle.octets.specs.Parts.{allZero};
+ghost use Rattle.answers.specs.Rules.{pick, rule, firstBroken};
 ghost use Rattle.chain.specs.Blocks as spec;
 ghost use Rattle.chain.specs.Code.{HasBlock, headerWith};
 ghost use Rattle.chain.specs.Header.{headerOf};
@@ -59,19 +62,38 @@ fn judged(h: Header, k: u64, expected: &[u8], block: &[u8]) -> u64
     let ids = h.ids;
     let sum = h.hashsum_length as usize;
     let data = sum + padding_of(h, k) as usize;
-    if !hashsum::hashsum_is(ids, block, expected) {
+    let hash = hashsum::hashsum_is(ids, block, expected);
+    let padding = parts::zero(&block[sum..data]);
+    let last = ends(h, k, block);
+    first_broken(hash, padding, last)
+}
+
+// The rules on a block in their order, by whether each holds.
+fn first_broken(hash: bool, padding: bool, last: bool) -> u64
+    ensures { λ r. ⌜ r ≡ firstBroken (rule 13 (not hash) ∷ rule 14 (not padding) ∷ rule 15 (not last) ∷ []) ⌝ }
+{
+    if !hash {
         return codes::BLOCK_HASHSUM;
     }
-    if !parts::zero(&block[sum..data]) {
+    if !padding {
         return codes::BLOCK_PADDING;
     }
-    if k + 1 != h.count as u64 {
-        return codes::DONE;
-    }
-    if !parts::zero(&block[..sum]) {
+    if !last {
         return codes::LAST_HASH;
     }
     codes::DONE
+}
+
+// Whether block k may have its hash field: that of the last is zero.
+fn ends(h: Header, k: u64, block: &[u8]) -> bool
+    requires { ⌜ (h .«hashsum_length» ≤ length (now block)) × (k < h .count) ⌝ }
+    ensures { λ r. ⌜ not r ≡ pick (eqb (suc k) (h .count)) (not (allZero (spec.hashField (headerWith h []) (now (block .entry))))) false ⌝ }
+{
+    if k + 1 != h.count as u64 {
+        return true;
+    }
+    let sum = h.hashsum_length as usize;
+    parts::zero(&block[..sum])
 }
 
 // How many bytes of padding block k has: only the first has any.

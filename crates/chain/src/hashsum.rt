@@ -19,8 +19,8 @@ pub fn hashsum(ids: [u64; 4], message: &[u8]) -> Joined
 {
     let mut bytes = [0u8; 256];
     let mut at = 0usize;
-    for i in 0usize..4 {
-        let d = hashes::digest(ids[i], message);
+    for position in 0usize..4 {
+        let d = hashes::digest(ids[position], message);
         let digest = d.bytes;
         let n = d.length;
         parts::copy(&mut bytes, at, &digest[..n]);
