@@ -1,7 +1,7 @@
 ghost use mathlib.Core.List.{[], _∷_, _++_};
 ghost use mathlib.Core.Path.{_≡_};
 ghost use mathlib.Core.Bool.{not};
-ghost use Prim.Native.Nat.{ℕ, _+_, _-_, _*_, _≤_, _<_};
+ghost use Prim.Native.Nat.{ℕ, _+_, _-_, _*_, _/_, _≤_, _<_};
 ghost use denote.Ref.{now};
 ghost use lib.Dec.{eqb};
 ghost use lib.ListN.{length, getD};
@@ -86,7 +86,7 @@ fn length_code(h: Header, output: u64) -> u64
     codes::DONE
 }
 
-// The fields that a file is packed under: as few blocks as hold it.
+// The fields that a file is packed under.
 fn packed_header(file: &[u8], ids: [u64; 4], block_size: u64, signature: u64) -> Header
     requires { ⌜ Orderly (record { file = now file; ids = ids; blockSize = «block_size»; signature = signature }) ⌝ }
     ensures { λ r. ⌜ headerWith r (spec.packedHeader (orderOf (now (file .entry)) r) .root)
@@ -95,7 +95,7 @@ fn packed_header(file: &[u8], ids: [u64; 4], block_size: u64, signature: u64) ->
     let n = file.len() as u64;
     let sum = hashsum::sum_length(ids);
     let room = block_size - sum;
-    let count = (n + room - 1) / room;
+    let count = block_count(n, room);
     Header {
         magic: 0xe6019598,
         count: count as u32,
@@ -109,13 +109,23 @@ fn packed_header(file: &[u8], ids: [u64; 4], block_size: u64, signature: u64) ->
     }
 }
 
+// As few blocks with this room for data as hold the file.
+fn block_count(file: u64, room: u64) -> u64
+    requires { ⌜ (0 < file) × (file ≤ 1073741824) × (0 < room) × (room ≤ 1048576) ⌝ }
+    ensures { λ r. ⌜ r ≡ (file + room - 1) / room ⌝ }
+{
+    (file + room - 1) / room
+}
+
 // The image, into an output as long as it is.
 fn pack_image(file: &[u8], h: Header, output: &mut [u8])
     requires { ⌜ Planned (now file) h (length (now output)) ⌝ }
     ensures { λ r. ⌜ now (output .exit) ≡ spec.image (orderOf (now (file .entry)) h) ⌝ }
 {
     pack_blocks(file, h, output);
-    parts::fill(output, h.header_size as usize, h.signature as usize, 0);
+    let head = h.header_size as usize;
+    let signature = h.signature as usize;
+    parts::fill(output, head, signature, 0);
     put_fields(h, output);
     put_link(h, 0, 36, output);
 }
