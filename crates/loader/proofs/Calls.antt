@@ -4,7 +4,6 @@ use mathlib.Core.Path.{_≡_, refl, sym, ap, ap₂, subst, _∙_}
 use mathlib.Core.List.{List, [], _∷_, _++_}
 use mathlib.Core.Logic.{_⊎_, inl, inr, _≢_}
 use Prim.Native.Nat.{ℕ, suc, _+_, _^_, _≤_, _<_}
-use native.Mathlib.Nat.{mul-le-mul-left}
 use native.Mathlib.Omega.{arith}
 use borrow.Author.Tests.{eqb-true, eqb-false, ne-eqb, le-ltb, not-false}
 use lib.Dec.{T, T-not, eqb}
@@ -18,7 +17,7 @@ use Rattle.board.specs.Cpuid.{tableRules}
 use Rattle.board.specs.Map.{regions, mapRules}
 use Rattle.chain.specs.Blocks.{blockCode, fileUpTo}
 use Rattle.chain.specs.Hashsum.{sumLength}
-use Rattle.chain.specs.Header.{dataLength, fileLength, imageRules, streamRules}
+use Rattle.chain.specs.Header.{fileLength, imageRules, streamRules}
 use Rattle.chain.specs.Open.{openRules, openAnswer, opened}
 use Rattle.chain.specs.Pack.{Order, packed}
 use Rattle.chain.proofs.BlockLaws.{proved-le}
@@ -37,7 +36,7 @@ use Rattle.machine.proofs.ReachedLaws.{reached-ended}
 use Rattle.machine.proofs.Standing.{Ended, at-end, at-magic, at-command, Running}
 use Rattle.machine.proofs.Theorems.{done-needs-all-bytes}
 use Rattle.loader.proofs.Images.{all-blocks}
-use Rattle.loader.proofs.LoadLaws.{taken, whole-file, all-stopped, answerMade, storesMade, load-is, badCode, answer-ways}
+use Rattle.loader.proofs.LoadLaws.{taken, whole-file, file-short, all-stopped, answerMade, storesMade, load-is, badCode, answer-ways}
 use Rattle.loader.specs.Load.{Offer, loadRules, header, block, job, provedBlocks, ended, stateAfter, storesAfter, loadAnswer, loaded}
 
 -- ---- lists of rules, of which one part holds
@@ -94,10 +93,8 @@ module _ (o : Offer) (h : Opens o) where
   -- the file is not over 2^30 bytes where the image is not
   file-small : length (file o) ≤ 2 ^ 30
   file-small =
-      let a = stream-passed (o .image) (o .approved) (o .expected) (h .rules) .0 .small in
-      let n = header o .count in
-      let less : dataLength (header o) ≤ header o .blockSize = omega arith in
-      rw (whole-file o sound) (omega (arith, sound .exact, mul-le-mul-left n less))
+      rw (whole-file o sound)
+      (file-short o sound (stream-passed (o .image) (o .approved) (o .expected) (h .rules) .0 .small))
 
   same-code : (memory : ℕ) → firstBroken (loadRules o memory) ≡ firstBroken (bareRules (file o) (o .map) (o .table) (o .mode) memory)
   same-code memory =

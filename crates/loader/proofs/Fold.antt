@@ -1,6 +1,6 @@
 -- Load block by block: what one more block does, and when the answer stands.
 use mathlib.Core.Path.{_≡_, refl, sym, ap, ap₂, subst, _∙_}
-use mathlib.Core.Bool.{Bool, true, false}
+use mathlib.Core.Bool.{Bool, false}
 use mathlib.Core.List.{List, [], _++_, append-nil, append-assoc}
 use mathlib.Core.Logic.{_⊎_, inl, inr, ⊎-elim, _≢_}
 use Prim.Native.Nat.{ℕ, zero, suc, _+_, _≤_, _<_}
@@ -13,6 +13,7 @@ use Rattle.answers.specs.declared.Answer.{Answer}
 use Rattle.chain.specs.Blocks.{blockCode, proved, fileUpTo, fileBytes}
 use Rattle.chain.proofs.BlockLaws.{file-more, proved-le, proved-more, stops, goes-on}
 use Rattle.chain.proofs.HeaderLaws.{Passed}
+use Rattle.machine.specs.Code.{isStopped}
 use Rattle.machine.specs.Machine.{State, Store, begun, run, trace, answerWith, answerOr}
 use Rattle.machine.specs.declared.Phase.{Phase}
 use Rattle.machine.specs.declared.Phase.the-variants.{Magic, Header, Parameters, Storing, Skipping, Stopped}
@@ -96,15 +97,7 @@ pub record Followed : Type 0 where
   pub answer : Answer
   pub stores : List Store
 
-abbrev pub hasStopped : Phase → Bool
-hasStopped Magic = false
-hasStopped Header = false
-hasStopped Parameters = false
-hasStopped (Storing a left) = false
-hasStopped (Skipping left) = false
-hasStopped (Stopped code place) = true
-
-running-on : (p : Phase) → Running p → hasStopped p ≡ false
+running-on : (p : Phase) → Running p → isStopped p ≡ false
 running-on Magic r = refl
 running-on Header r = refl
 running-on Parameters r = refl
@@ -120,7 +113,7 @@ follow o (suc left) k s =
     let bytes = fileBytes (header o) k (block o k) in
     let code = blockCode (header o) (block o) k in
     let next = follow o left (suc k) (run (job o) s bytes) in
-    pick (hasStopped (s .phase)) (record { answer = answerOr (s .phase) 0 0 s; stores = [] })
+    pick (isStopped (s .phase)) (record { answer = answerOr (s .phase) 0 0 s; stores = [] })
     (pick (eqb code 0) (record { answer = next .answer; stores = trace (job o) s bytes ++ next .stores })
     (record { answer = answerWith code (suc k) s; stores = [] }))
 
@@ -189,9 +182,9 @@ module _ (o : Offer) (q : Passed (o .image) (o .approved) (o .expected)) where
           (pick (eqb code 0) (record { answer = next .answer; stores = trace (job o) s bytes ++ next .stores })
           (record { answer = answerWith code (suc k) s; stores = [] }))
 
-      by-phase : Below → Running (s .phase) ⊎ ((c : ℕ) × (p : ℕ) × (s .phase ≡ Stopped c p)) → Follows k (here (hasStopped (s .phase)))
+      by-phase : Below → Running (s .phase) ⊎ ((c : ℕ) × (p : ℕ) × (s .phase ≡ Stopped c p)) → Follows k (here (isStopped (s .phase)))
       by-phase on (inr (c, p, end)) =
-          subst (λ (b : Bool). Follows k (here b)) (sym (ap hasStopped end)) (stopped-follows k c p all (omega arith) end)
+          subst (λ (b : Bool). Follows k (here b)) (sym (ap isStopped end)) (stopped-follows k c p all (omega arith) end)
       by-phase on (inl r) =
           subst (λ (b : Bool). Follows k (here b)) (sym (running-on (s .phase) r))
           (pick-cases (Follows k) (eqb code 0) _ _ (λ z. good on (eqb-true code 0 z)) (λ z. bad r (eqb-false code 0 z)))

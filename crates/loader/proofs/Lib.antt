@@ -1,5 +1,6 @@
 pub mod Calls
 pub mod Cases
+pub mod CodeLaws
 pub mod DocumentCases
 pub mod Fold
 pub mod Images

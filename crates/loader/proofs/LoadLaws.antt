@@ -4,7 +4,7 @@ use mathlib.Core.Path.{_≡_, refl, ap, subst, _∙_}
 use mathlib.Core.List.{List, [], _++_}
 use mathlib.Core.Logic.{_⊎_, inl, inr, _≢_}
 use Prim.Native.Nat.{ℕ, suc, _+_, _*_, _≤_, _<_}
-use native.Mathlib.Nat.{le-of-lt, mul-le-mul-right, suc-mul}
+use native.Mathlib.Nat.{le-of-lt, mul-le-mul-left, mul-le-mul-right, suc-mul}
 use native.Mathlib.Omega.{arith}
 use borrow.Author.Tests.{eqb-true, eqb-false, eq-eqb}
 use lib.Dec.{eqb, leb, leb→le, lit≤}
@@ -17,7 +17,7 @@ use Rattle.answers.proofs.RuleLaws.{first-broken-has}
 use Rattle.board.specs.Cpuid.{tableRules}
 use Rattle.board.specs.Map.{regions, mapRules}
 use Rattle.chain.specs.Blocks.{blockRules, blockCode, expected, fileUpTo}
-use Rattle.chain.specs.Header.{fileLength, blocksStart, imageRules}
+use Rattle.chain.specs.Header.{dataLength, fileLength, blocksStart, imageRules}
 use Rattle.chain.proofs.BlockLaws.{proved-le, fails, length-file}
 use Rattle.chain.proofs.GivenCodes.{code-passes}
 use Rattle.chain.proofs.HeaderLaws.{Allowed, allowed, Passed, passed}
@@ -65,6 +65,12 @@ module _ (o : Offer) where
   -- all blocks hold the file
   pub whole-file : Passed (o .image) (o .approved) (o .expected) → length (fileUpTo (header o) (block o) (header o .count)) ≡ fileLength (header o)
   whole-file q = length-file (header o) (block o) (header o .count) (sized q) (le-of-lt (q .sound .padded))
+
+  -- the file is not longer than the image
+  pub file-short : Passed (o .image) (o .approved) (o .expected) → {n : ℕ} → length (o .image) ≤ n → fileLength (header o) ≤ n
+  file-short q h =
+      let less : dataLength (header o) ≤ header o .blockSize = omega arith in
+      omega (arith, h, q .exact, mul-le-mul-left (header o .count) less)
 
   -- a machine that all blocks were run on has stopped
   pub all-stopped : Passed (o .image) (o .approved) (o .expected)

@@ -1,12 +1,12 @@
 -- What load is held to, each under the sentence that it carries (document 01).
-use mathlib.Core.Bool.{Bool, true, false}
+use mathlib.Core.Bool.{Bool, true, false, _&&_}
 use mathlib.Core.Path.{_≡_, refl, sym, ap, _∙_}
 use mathlib.Core.List.{List, [], _∷_, map}
 use mathlib.Core.Logic.{_⊎_, inl, inr, _≢_}
 use Prim.Native.Nat.{ℕ, suc, _+_, _≤_, _<_}
 use native.Mathlib.Omega.{arith}
-use borrow.Author.Tests.{ne-eqb}
-use lib.Dec.{T, eqb, lit≤}
+use borrow.Author.Tests.{ne-eqb, le-leb, lt-leb}
+use lib.Dec.{T, eqb, leb, lit≤}
 use lib.ListN.{length, take}
 use Rattle.answers.specs.Answers.{Outcome, refused, recordBytes}
 use Rattle.answers.specs.Rules.{pick, firstBroken}
@@ -94,68 +94,48 @@ module _ (o : Offer) where
       (λ t code place e q n. ap (λ (b : Bool). pick b (ended o .tally .entry) 0) (ne-eqb code 0 n))
       (λ t s r l u n. ap (λ (b : Bool). pick b (ended o .tally .entry) 0) (ne-eqb (badCode o) 0 n))
 
-  -- The place that an answer gives.
-  pub record PlaceSaid (a : Answer) : Type 0 where
-    pub nowhere : a .code ≤ 12 → a .place ≡ 0
-    -- the block number from 1, of the first block that is not proved
-    pub at-block : 13 ≤ a .code → a .code ≤ 15 → (a .place ≡ suc (provedBlocks o)) × (provedBlocks o < header o .count)
-    pub at-magic : a .code ≡ 16 → a .place ≡ 0
-    -- the file offset of the command's first byte, behind the magic and the commands done
-    pub at-command : 17 ≤ a .code → a .code ≤ 26 → (a .place ≡ firstByte (job o) (provedBytes o)) × (a .place < fileLength (header o))
-    pub at-end : a .code ≡ 27 → a .place ≡ fileLength (header o)
+  -- Place is the block number from 1 for 13 to 15, that of the first block that is not proved; the file offset of the
+  -- command's first byte for 17 to 26, behind the magic and the commands done; the file length for 27; else 0.
+  abbrev pub placeFor : ℕ → ℕ
+  placeFor code =
+      pick (leb 13 code && leb code 15) (suc (provedBlocks o))
+      (pick (leb 17 code && leb code 26) (firstByte (job o) (provedBytes o)) (pick (eqb code 27) (fileLength (header o)) 0))
 
-  pub place-said : (memory : ℕ) → PlaceSaid (answerMade o memory)
+  pub place-said : (memory : ℕ) → answerMade o memory .place ≡ placeFor (answerMade o memory .code)
   place-said memory =
-      load-cases o (λ (a : Answer) (xs : List Store). PlaceSaid a) memory
-      (λ code l u. record {
-        nowhere = λ n. refl;
-        at-block = λ l′ u′. absurd (omega arith);
-        at-magic = λ e. absurd (omega arith);
-        at-command = λ l′ u′. absurd (omega arith);
-        at-end = λ e. absurd (omega arith);
-      })
+      load-cases o (λ (a : Answer) (xs : List Store). a .place ≡ placeFor (a .code)) memory
+      (λ code l u. sym
+      (simp (lt-leb 13 code (omega arith), lt-leb 17 code (omega arith), ne-eqb code 27 (λ e. omega arith))))
       (λ t code place e q. by-stop code place (stop-placed (job o) (provedBytes o) e))
-      (λ t s r l u. record {
-        nowhere = λ n. absurd (omega arith);
-        at-block = λ l′ u′. (refl, s);
-        at-magic = λ e. absurd (omega arith);
-        at-command = λ l′ u′. absurd (omega arith);
-        at-end = λ e. absurd (omega arith);
-      })
+      (λ t s r l u. sym (simp (le-leb 13 (badCode o) l, le-leb (badCode o) 15 u)))
     where
-      by-stop : (code place : ℕ) → Placed (job o) (firstByte (job o) (provedBytes o)) code place → PlaceSaid (answerWith code place (ended o))
-      by-stop code place (done c p) =
-          record {
-            nowhere = λ n. p;
-            at-block = λ l u. absurd (omega arith);
-            at-magic = λ e. p;
-            at-command = λ l u. absurd (omega arith);
-            at-end = λ e. absurd (omega arith);
-          }
-      by-stop code place (no-magic c p) =
-          record {
-            nowhere = λ n. p;
-            at-block = λ l u. absurd (omega arith);
-            at-magic = λ e. p;
-            at-command = λ l u. absurd (omega arith);
-            at-end = λ e. absurd (omega arith);
-          }
+      by-stop : (code place : ℕ) → Placed (job o) (firstByte (job o) (provedBytes o)) code place → place ≡ placeFor code
+      by-stop code place (done c p) = p ∙ sym (ap placeFor c)
+      by-stop code place (no-magic c p) = p ∙ sym (ap placeFor c)
       by-stop code place (by-command l u p below) =
-          record {
-            nowhere = λ n. absurd (omega arith);
-            at-block = λ l′ u′. absurd (omega arith);
-            at-magic = λ e. absurd (omega arith);
-            at-command = λ l′ u′. (p, omega arith);
-            at-end = λ e. absurd (omega arith);
-          }
-      by-stop code place (no-entry c p) =
-          record {
-            nowhere = λ n. absurd (omega arith);
-            at-block = λ l u. absurd (omega arith);
-            at-magic = λ e. absurd (omega arith);
-            at-command = λ l u. absurd (omega arith);
-            at-end = λ e. p;
-          }
+          p
+          ∙ sym
+          (simp (le-leb 13 code (omega arith), lt-leb code 15 (omega arith), le-leb 17 code l, le-leb code 26 u))
+      by-stop code place (no-entry c p) = p ∙ sym (ap placeFor c)
+
+  -- It is the number of a block of the image for 13 to 15, and an offset in the file for 17 to 26.
+  pub place-inside : (memory : ℕ)
+      → (13 ≤ answerMade o memory .code → answerMade o memory .code ≤ 15 → answerMade o memory .place ≤ header o .count)
+      × (17 ≤ answerMade o memory .code → answerMade o memory .code ≤ 26 → answerMade o memory .place < fileLength (header o))
+  place-inside memory =
+      load-cases o
+      (λ (a : Answer) (xs : List Store). (13 ≤ a .code → a .code ≤ 15 → a .place ≤ header o .count)
+      × (17 ≤ a .code → a .code ≤ 26 → a .place < fileLength (header o))) memory
+      (λ code l u. (λ l′ u′. omega arith, λ l′ u′. absurd (omega arith)))
+      (λ t code place e q. by-stop code place (stop-placed (job o) (provedBytes o) e))
+      (λ t s r l u. (λ l′ u′. s, λ l′ u′. absurd (omega arith)))
+    where
+      by-stop : (code place : ℕ) → Placed (job o) (firstByte (job o) (provedBytes o)) code place
+          → (13 ≤ code → code ≤ 15 → place ≤ header o .count) × (17 ≤ code → code ≤ 26 → place < fileLength (header o))
+      by-stop code place (done c p) = (λ l u. omega arith, λ l u. absurd (omega arith))
+      by-stop code place (no-magic c p) = (λ l u. omega arith, λ l u. absurd (omega arith))
+      by-stop code place (by-command l u p below) = (λ l′ u′. absurd (omega arith), λ l′ u′. omega arith)
+      by-stop code place (no-entry c p) = (λ l u. absurd (omega arith), λ l u. absurd (omega arith))
 
   -- ---- 2. Demand 2: what load leaves is the written machine's
 

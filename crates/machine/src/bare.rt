@@ -52,7 +52,7 @@ fn bare_code(file: &[u8], map: &[u8], table: &[u8], mode: u64, memory: usize) ->
 }
 
 // Mode is 32 or 64.
-fn mode_code(mode: u64) -> u64
+pub fn mode_code(mode: u64) -> u64
     ensures { λ r. ⌜ r ≡ firstBroken (modeRules mode) ⌝ }
 {
     match mode {

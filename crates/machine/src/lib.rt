@@ -10,7 +10,7 @@ ghost use lib.ListN.{length};
 ghost use Rattle.board.specs.Board.{Board};
 ghost use Rattle.board.specs.Map.{regions};
 ghost use Rattle.machine.specs.Bare.{jobOf};
-ghost use Rattle.machine.specs.Code.{machineOf, answerFor, jobOn, Ready};
+ghost use Rattle.machine.specs.Code.{machineOf, answerFor, jobOn, Ready, isStopped};
 ghost use Rattle.machine.specs.Machine as spec;
 ghost use Rattle.machine.specs.Memory.{applied};
 use answers::Answer;
@@ -143,6 +143,24 @@ pub fn take_piece(
         start: end.start,
         next: end.next,
         tally: tally_now,
+    }
+}
+
+// Whether a run has ended.
+pub fn has_stopped(m: Machine) -> bool
+    ensures { λ r. ⌜ r ≡ isStopped (m .phase) ⌝ }
+{
+    let phase = m.phase;
+    match phase {
+        Phase::Magic => false,
+        Phase::Header => false,
+        Phase::Parameters => false,
+        Phase::Storing {
+            address: _,
+            left: _,
+        } => false,
+        Phase::Skipping { left: _ } => false,
+        Phase::Stopped { code: _, place: _ } => true,
     }
 }
 
