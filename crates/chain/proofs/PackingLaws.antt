@@ -12,7 +12,7 @@ use lib.ListN.{length, getD, take, drop, replicate, length-append, length-replic
 use lib.Seq.{take-at}
 use Rattle.octets.specs.Numbers.{littleBytes}
 use Rattle.octets.specs.Parts.{part, put}
-use Rattle.octets.proofs.PartLaws.{length-part, put-beside, length-put, drop-behind-put}
+use Rattle.octets.proofs.PartLaws.{length-part, length-put, drop-behind-put}
 use Rattle.answers.specs.Rules.{pick, firstBroken, signatureRules}
 use Rattle.answers.proofs.RuleLaws.{AllHold, zero-all-hold}
 use Rattle.chain.specs.Blocks.{paddingOf}
@@ -73,11 +73,6 @@ sizeBytes h =
 abbrev fieldBytes : Fields → List ℕ
 fieldBytes h = sizeBytes h ++ idBytes (h .ids) ++ littleBytes 2 (h .scheme) ++ littleBytes 2 0 ++ littleBytes 4 (h .padding)
 
--- put side by side from an offset on
-put-more : (s v w : List ℕ) (at k : ℕ) {t u : List ℕ} → t ≡ put s at v → u ≡ put t (at + k) w → length v ≡ k → at + k + length w ≤ length s
-    → u ≡ put s at (v ++ w)
-put-more s v w at k e f l h = f ∙ ap (λ (x : List ℕ). put x (at + k) w) e ∙ put-beside s at k v w l h
-
 module _ (s : List ℕ) (enough : 36 ≤ length s) where
   pub ids-written : (ids t₁ t₂ t₃ t₄ : List ℕ) → length ids ≡ 4
       → t₁ ≡ put s 20 (littleBytes 2 (getD ids 0 0)) → t₂ ≡ put t₁ 22 (littleBytes 2 (getD ids 1 0))
@@ -89,7 +84,7 @@ module _ (s : List ℕ) (enough : 36 ≤ length s) where
       let b = littleBytes 2 (getD ids 1 0) in
       let c = littleBytes 2 (getD ids 2 0) in
       let d = littleBytes 2 (getD ids 3 0) in
-      put-more s (a ++ b ++ c) d 20 6 (put-more s (a ++ b) c 20 4 (put-more s a b 20 2 e₁ e₂ refl (omega arith)) e₃ refl (omega arith)) e₄ refl (omega arith)
+      put-next s (a ++ b ++ c) d 20 6 (put-next s (a ++ b) c 20 4 (put-next s a b 20 2 e₁ e₂ refl (omega arith)) e₃ refl (omega arith)) e₄ refl (omega arith)
       ∙ ap (λ (v : List ℕ). put s 20 v) (sym (four-ids ids four))
 
   pub sizes-written : (h : Fields) (t₁ t₂ t₃ t₄ t₅ t₆ : List ℕ)
@@ -105,9 +100,9 @@ module _ (s : List ℕ) (enough : 36 ≤ length s) where
       let d = littleBytes 4 (h .signature) in
       let e = littleBytes 2 (h .«header_size») in
       let f = littleBytes 2 (h .«hashsum_length») in
-      put-next s (a ++ b ++ c ++ d ++ e) f 18
-      (put-next s (a ++ b ++ c ++ d) e 16
-      (put-next s (a ++ b ++ c) d 12 (put-next s (a ++ b) c 8 (put-next s a b 4 e₁ e₂ refl (omega arith)) e₃ refl (omega arith)) e₄ refl (omega arith))
+      put-next s (a ++ b ++ c ++ d ++ e) f 0 18
+      (put-next s (a ++ b ++ c ++ d) e 0 16
+      (put-next s (a ++ b ++ c) d 0 12 (put-next s (a ++ b) c 0 8 (put-next s a b 0 4 e₁ e₂ refl (omega arith)) e₃ refl (omega arith)) e₄ refl (omega arith))
       e₅ refl (omega arith))
       e₆ refl (omega arith)
 
@@ -128,8 +123,8 @@ module _ (s : List ℕ) (enough : 36 ≤ length s) where
       let l₂ : length (a ++ b) ≡ 28 = length-append a b ∙ ap (λ (n : ℕ). 20 + n) lb in
       let l₃ : length (a ++ b ++ c) ≡ 30 = length-append (a ++ b) c ∙ ap (λ (n : ℕ). n + 2) l₂ in
       let l₄ : length (a ++ b ++ c ++ d) ≡ 32 = length-append (a ++ b ++ c) d ∙ ap (λ (n : ℕ). n + 2) l₃ in
-      put-next s (a ++ b ++ c ++ d) e 32
-      (put-next s (a ++ b ++ c) d 30 (put-next s (a ++ b) c 28 (put-next s a b 20 e₁ e₂ refl (omega arith)) e₃ l₂ (omega arith)) e₄ l₃ (omega arith))
+      put-next s (a ++ b ++ c ++ d) e 0 32
+      (put-next s (a ++ b ++ c) d 0 30 (put-next s (a ++ b) c 0 28 (put-next s a b 0 20 e₁ e₂ refl (omega arith)) e₃ l₂ (omega arith)) e₄ l₃ (omega arith))
       e₅ l₄ (omega arith)
       ∙ ap (λ (v : List ℕ). put s 0 v) (sym (append-nil (fieldBytes h)))
 
@@ -299,7 +294,7 @@ module _ (file : List ℕ) (h : Fields) (n : ℕ) (pl : Plan file h n) where
       let from : ℕ = k * r + q - h .padding in
       let bytes : List ℕ = part file from (r - q) in
       let lb : length bytes ≡ r - q = length-part file from (r - q) (d .ends) in
-      put-more s (replicate q 0) bytes at q f (g ∙ ap (λ (i : ℕ). put t (at + q) (part file from i)) e) (length-replicate q 0)
+      put-next s (replicate q 0) bytes at q f (g ∙ ap (λ (i : ℕ). put t (at + q) (part file from i)) e) (length-replicate q 0)
       (omega (arith, d .front, d .padded))
       ∙ ap (λ (v : List ℕ). put s at v) (sym (d .is))
 
@@ -355,7 +350,7 @@ module _ (file : List ℕ) (h : Fields) (n : ℕ) (pl : Plan file h n) where
       let all : firstBlock h + blocks p * h .«block_size» ≤ length s =
       omega (arith, pl .whole, ap (λ (x : ℕ). x * h .«block_size») (pl .count)) in
       ap (λ (x : List ℕ). drop at x)
-      (put-more s (link p j (suc k)) (chunk p k) at (h .«hashsum_length») (e ∙ ap₂ (λ (x : ℕ) (v : List ℕ). put s x v) begins field)
+      (put-next s (link p j (suc k)) (chunk p k) at (h .«hashsum_length») (e ∙ ap₂ (λ (x : ℕ) (v : List ℕ). put s x v) begins field)
       (f ∙ ap (λ (x : ℕ). put t (x + h .«hashsum_length») (chunk p k)) begins) lf
       (omega (arith, block-within k l, length-chunk p ok k b, pl .sum, pl .above)))
       ∙ block-written p ok s (firstBlock h) j k b all behind
@@ -390,7 +385,7 @@ module _ (file : List ℕ) (h : Fields) (n : ℕ) (pl : Plan file h n) where
       ap (λ (x : List ℕ). drop i x) f ∙ drop-behind-put t 0 fields (omega arith) i (omega arith) ∙ wt in
       let all : h .count - 0 ≡ blocks p = sub-zero (h .count) ∙ pl .count in
       let start : 36 + sumLength (h .ids) + h .signature ≡ i = omega (arith, pl .sum) in
-      put-next t fields root 36 f
+      put-next t fields root 0 36 f
       (g ∙ ap (λ (x : List ℕ). put u 36 x) (link-stands 0 u (omega arith) wu ∙ ap (λ (j : ℕ). link p j 0) all)) lf (omega arith)
       ∙ ap₂ (λ (x y : List ℕ). put x 0 y)
       (e ∙ ap (λ (x : ℕ). put s x zeros) (head ∙ ap (λ (x : ℕ). 36 + x) (pl .sum)))

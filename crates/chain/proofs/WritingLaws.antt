@@ -2,7 +2,7 @@
 use mathlib.Core.Path.{_≡_, sym, ap, ap₂, _∙_}
 use mathlib.Core.List.{List, _++_, append-assoc}
 use Prim.Native.Nat.{ℕ, zero, suc, _+_, _-_, _*_, _≤_, _<_}
-use native.Mathlib.Nat.{zero-add, zero-mul, sub-zero, mul-le-mul-right}
+use native.Mathlib.Nat.{zero-mul, sub-zero, mul-le-mul-right}
 use native.Mathlib.Omega.{arith}
 use lib.ListN.{length, take, drop, replicate, length-replicate}
 use lib.Seq.{drop-at, length-take-le, take-append-add, drop-append-add}
@@ -24,12 +24,10 @@ drop-put s at v h =
     ap (λ (t : List ℕ). drop at t) (append-assoc (take at s) v (drop (at + length v) s))
     ∙ drop-at (take at s) (v ++ drop (at + length v) s) at (length-take-le at s (omega arith))
 
--- put side by side from the front on
-pub put-next : (s v w : List ℕ) (k : ℕ) {t u : List ℕ} → t ≡ put s 0 v → u ≡ put t k w → length v ≡ k → k + length w ≤ length s
-    → u ≡ put s 0 (v ++ w)
-put-next s v w k e f l h =
-    f ∙ ap (λ (x : List ℕ). put x k w) e ∙ ap (λ (i : ℕ). put (put s 0 v) i w) (sym (zero-add k))
-    ∙ put-beside s 0 k v w l (omega arith)
+-- put side by side from an offset on
+pub put-next : (s v w : List ℕ) (at k : ℕ) {t u : List ℕ} → t ≡ put s at v → u ≡ put t (at + k) w → length v ≡ k → at + k + length w ≤ length s
+    → u ≡ put s at (v ++ w)
+put-next s v w at k e f l h = f ∙ ap (λ (x : List ℕ). put x (at + k) w) e ∙ put-beside s at k v w l h
 
 module _ (p : Order) (ok : Packable p) where
   -- ---- the data of block k: the padding's zeros in the first, then the file's bytes from where it has come to
