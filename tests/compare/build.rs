@@ -2,7 +2,7 @@
 
 use std::{env, path::Path};
 
-const ARCHIVES: [&str; 1] = ["probe"];
+const ARCHIVES: [&str; 2] = ["probe", "runnelpin"];
 
 fn main() {
     let here = env::var("CARGO_MANIFEST_DIR").unwrap();

@@ -421,24 +421,3 @@ impl Case for PackCase {
         }
     }
 }
-
-#[cfg(test)]
-mod tests {
-    use super::*;
-    use crate::cases::agree;
-
-    #[test]
-    fn every_code_of_open_is_met() {
-        agree::<OpenCase>(sbs::open, sbs::open);
-    }
-
-    #[test]
-    fn both_answers_of_signature_are_met() {
-        agree::<SignatureCase>(sbs::signature, sbs::signature);
-    }
-
-    #[test]
-    fn every_code_of_pack_is_met() {
-        agree::<PackCase>(sbs::pack, sbs::pack);
-    }
-}

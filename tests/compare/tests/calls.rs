@@ -1,0 +1,24 @@
+//! The library's calls against the second program's: generated cases, and both sides of each line.
+
+use compare::library;
+use second::cases::sbs::{OpenCase, PackCase, SignatureCase};
+use second::cases::{agree, sbs_lines};
+use second::sbs;
+
+#[test]
+fn open_agrees() {
+    agree::<OpenCase>(library::open, sbs::open);
+    sbs_lines::open_lines(library::open);
+}
+
+#[test]
+fn pack_agrees() {
+    agree::<PackCase>(library::pack, sbs::pack);
+    sbs_lines::pack_lines(library::pack);
+}
+
+#[test]
+fn signature_agrees() {
+    agree::<SignatureCase>(library::signature, sbs::signature);
+    sbs_lines::signature_lines(library::signature);
+}
