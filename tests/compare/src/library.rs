@@ -50,6 +50,20 @@ extern "C" {
         header_length: usize,
         signature_length: u64,
     ) -> Part;
+
+    fn runnelpin_run(
+        file: *const u8,
+        file_length: usize,
+        map: *const u8,
+        map_length: usize,
+        cpuid: *const u8,
+        cpuid_length: usize,
+        mode: u64,
+        memory: *mut u8,
+        memory_length: usize,
+        answer: *mut u8,
+        answer_length: usize,
+    ) -> u64;
 }
 
 // SAFETY of each call below: a pointer holds for the length beside it, and what is lent for writing
@@ -116,6 +130,31 @@ pub fn signature(image: &[u8], header: &[u8], signature_length: u64) -> (u64, u6
         )
     };
     (part.start, part.length)
+}
+
+pub fn run(
+    file: &[u8],
+    map: &[u8],
+    cpuid: &[u8],
+    mode: u64,
+    memory: &mut [u8],
+    answer: &mut [u8],
+) -> u64 {
+    unsafe {
+        runnelpin_run(
+            start(file),
+            file.len(),
+            start(map),
+            map.len(),
+            start(cpuid),
+            cpuid.len(),
+            mode,
+            start_mut(memory),
+            memory.len(),
+            start_mut(answer),
+            answer.len(),
+        )
+    }
 }
 
 fn start(bytes: &[u8]) -> *const u8 {

@@ -1,9 +1,10 @@
 //! The library's calls against the second program's: generated cases, and both sides of each line.
 
 use compare::library;
+use second::cases::commands::RunCase;
 use second::cases::sbs::{OpenCase, PackCase, SignatureCase};
-use second::cases::{agree, sbs_lines};
-use second::sbs;
+use second::cases::{agree, run_lines, sbs_lines};
+use second::{machine, sbs};
 
 #[test]
 fn open_agrees() {
@@ -21,4 +22,10 @@ fn pack_agrees() {
 fn signature_agrees() {
     agree::<SignatureCase>(library::signature, sbs::signature);
     sbs_lines::signature_lines(library::signature);
+}
+
+#[test]
+fn run_agrees() {
+    agree::<RunCase>(library::run, machine::run);
+    run_lines::run_lines(library::run);
 }

@@ -391,14 +391,3 @@ impl Case for RunCase {
         }
     }
 }
-
-#[cfg(test)]
-mod tests {
-    use super::*;
-    use crate::{cases::agree, machine};
-
-    #[test]
-    fn every_code_of_run_is_met() {
-        agree::<RunCase>(machine::run, machine::run);
-    }
-}
