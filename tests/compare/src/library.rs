@@ -64,6 +64,23 @@ extern "C" {
         answer: *mut u8,
         answer_length: usize,
     ) -> u64;
+
+    fn runnelpin_load(
+        image: *const u8,
+        image_length: usize,
+        header: *const u8,
+        header_length: usize,
+        map: *const u8,
+        map_length: usize,
+        cpuid: *const u8,
+        cpuid_length: usize,
+        mode: u64,
+        signature_length: u64,
+        memory: *mut u8,
+        memory_length: usize,
+        answer: *mut u8,
+        answer_length: usize,
+    ) -> u64;
 }
 
 // SAFETY of each call below: a pointer holds for the length beside it, and what is lent for writing
@@ -149,6 +166,37 @@ pub fn run(
             start(cpuid),
             cpuid.len(),
             mode,
+            start_mut(memory),
+            memory.len(),
+            start_mut(answer),
+            answer.len(),
+        )
+    }
+}
+
+#[allow(clippy::too_many_arguments)] // these are the call's
+pub fn load(
+    image: &[u8],
+    header: &[u8],
+    map: &[u8],
+    cpuid: &[u8],
+    mode: u64,
+    signature_length: u64,
+    memory: &mut [u8],
+    answer: &mut [u8],
+) -> u64 {
+    unsafe {
+        runnelpin_load(
+            start(image),
+            image.len(),
+            start(header),
+            header.len(),
+            start(map),
+            map.len(),
+            start(cpuid),
+            cpuid.len(),
+            mode,
+            signature_length,
             start_mut(memory),
             memory.len(),
             start_mut(answer),

@@ -2,9 +2,10 @@
 
 use compare::library;
 use second::cases::commands::RunCase;
+use second::cases::load::LoadCase;
 use second::cases::sbs::{OpenCase, PackCase, SignatureCase};
-use second::cases::{agree, run_lines, sbs_lines};
-use second::{machine, sbs};
+use second::cases::{agree, load_lines, run_lines, sbs_lines};
+use second::{load, machine, sbs};
 
 #[test]
 fn open_agrees() {
@@ -28,4 +29,10 @@ fn signature_agrees() {
 fn run_agrees() {
     agree::<RunCase>(library::run, machine::run);
     run_lines::run_lines(library::run);
+}
+
+#[test]
+fn load_agrees() {
+    agree::<LoadCase>(library::load, load::load);
+    load_lines::load_lines(library::load);
 }

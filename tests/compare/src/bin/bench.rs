@@ -14,6 +14,7 @@ fn main() {
     hashes();
     streams();
     commands();
+    loads();
 }
 
 fn some_bytes(length: usize) -> Vec<u8> {
@@ -148,4 +149,35 @@ fn commands() {
             assert_eq!(code, 0);
         },
     );
+}
+
+fn loads() {
+    // the write takes all of the blocks but magic, two headers, address and entry
+    let length = MIB_64 / BLOCK * DATA - 8 - 24 - 24;
+    let image = packed(&File::new().write(0, &some_bytes(length)).entry(0).0);
+    let map = regions(1, length as u64);
+    let (mut memory, mut answer) = (vec![1; length], [0; 40]);
+    let mut load = || {
+        let (header, memory) = (&image[..HEADER], &mut memory);
+        let code = library::load(
+            black_box(&image),
+            header,
+            &map,
+            &[],
+            MODE,
+            SIGNATURE,
+            memory,
+            &mut answer,
+        );
+        assert_eq!(code, 0);
+    };
+    race("load of 64 MiB: plain Rust hashing", &mut load, || {
+        hash_blocks(&image)
+    });
+    race("load of 64 MiB: its own hashing", &mut load, || {
+        let mut out = [0; 64];
+        for block in image[FIRST..].chunks_exact(BLOCK) {
+            black_box(library::digest(4, block, &mut out));
+        }
+    });
 }

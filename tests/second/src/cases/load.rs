@@ -69,14 +69,3 @@ impl Case for LoadCase {
         }
     }
 }
-
-#[cfg(test)]
-mod tests {
-    use super::*;
-    use crate::{cases::agree, load};
-
-    #[test]
-    fn every_code_of_load_is_met() {
-        agree::<LoadCase>(load::load, load::load);
-    }
-}
