@@ -1,6 +1,6 @@
 -- Laws of the table of algorithms: which one an ID has, and what all of them share.
 use mathlib.Core.Path.{_≡_, ap, sym, _∙_}
-use mathlib.Core.Bool.{Bool, true, false}
+use mathlib.Core.Bool.{Bool, true, false, cond}
 use mathlib.Core.List.{List, [], _∷_}
 use Prim.Native.Nat.{ℕ}
 use borrow.Author.Tests.{ne-eqb}
@@ -8,7 +8,7 @@ use lib.Dec.{eqb}
 use Rattle.hashes.specs.declared.Digested.{Digested}
 use Rattle.hashes.specs.Tables.{SHA2-256, SHA2-384, SHA2-512}
 use Rattle.hashes.specs.Compression.{sha2}
-use Rattle.hashes.specs.Digests.{Algorithm, algorithm, algorithms, pick, algorithmOf, digest, digestLength}
+use Rattle.hashes.specs.Digests.{Algorithm, algorithm, algorithms, algorithmOf, digest, digestLength}
 use Rattle.hashes.specs.Code.{inSixtyFour, digestedBy}
 
 module _ {i : ℕ} where
@@ -29,11 +29,11 @@ module _ {i : ℕ} where
   has-none p q r = simp (ne-eqb i 2 p, ne-eqb i 3 q, ne-eqb i 4 r)
 
 module _ (i : ℕ) {x : Algorithm} (e : algorithmOf algorithms i ≡ x) where
-  pub length-by : digestLength i ≡ x .length
+  pub length-by : digestLength i ≡ x .bytes
   unfolding digestLength
-  length-by = ap (λ (y : Algorithm). y .length) e
+  length-by = ap (λ (y : Algorithm). y .bytes) e
 
-  pub digest-by : (m : List ℕ) {b : List ℕ} → b ≡ inSixtyFour (x .digest m) → _≡_ {A = Digested} (record { bytes = b; length = x .length }) (digestedBy i m)
+  pub digest-by : (m : List ℕ) {b : List ℕ} → b ≡ inSixtyFour (x .digest m) → _≡_ {A = Digested} (record { bytes = b; length = x .bytes }) (digestedBy i m)
   unfolding digest
   digest-by m f =
       let bytes = f ∙ ap (λ (y : Algorithm). inSixtyFour (y .digest m)) (sym e) in
@@ -46,7 +46,7 @@ module _ (Q : Algorithm → Type 0) (none : (i : ℕ) → Q (algorithm i 0 (λ m
   All [] = Unit {0}
   All (x ∷ xs) = Q x × All xs
 
-  picked : (b : Bool) {x y : Algorithm} → Q x → Q y → Q (pick b x y)
+  picked : (b : Bool) {x y : Algorithm} → Q x → Q y → Q (cond b x y)
   picked true q r = q
   picked false q r = r
 

@@ -21,7 +21,7 @@ use Rattle.hashes.proofs.Algorithms.{every-algorithm, has-none, length-
 pub length-digest : (i : ℕ) (m : List ℕ) → length (digest i m) ≡ digestLength i
 unfolding digest digestLength
 length-digest i m =
-    every-algorithm (λ x. length (x .digest m) ≡ x .length) (λ i. refl) (length-sha2 SHA2-256 m (omega arith)) (length-sha2 SHA2-384 m (omega arith))
+    every-algorithm (λ x. length (x .digest m) ≡ x .bytes) (λ i. refl) (length-sha2 SHA2-256 m (omega arith)) (length-sha2 SHA2-384 m (omega arith))
     (length-sha2 SHA2-512 m (omega arith)) i
 
 -- a digest is of bytes
@@ -33,7 +33,7 @@ octets-digest i m =
 -- no digest is longer than 64 bytes
 pub digestLength-most : (i : ℕ) → digestLength i ≤ 64
 unfolding digestLength
-digestLength-most = every-algorithm (λ x. x .length ≤ 64) (λ i. omega arith) (omega arith) (omega arith) (omega arith)
+digestLength-most = every-algorithm (λ x. x .bytes ≤ 64) (λ i. omega arith) (omega arith) (omega arith) (omega arith)
 
 -- the ID 0 has no digest, and no ID of more than 16 bits has one
 pub digestLength-zero : digestLength 0 ≡ 0

@@ -1,5 +1,5 @@
 -- The hashes by their SBS hash IDs (document 01, the header's hash IDs).
-use mathlib.Core.Bool.{Bool, true, false}
+use mathlib.Core.Bool.{cond}
 use mathlib.Core.List.{List, [], _∷_}
 use Prim.Native.Nat.{ℕ}
 use lib.Dec.{eqb}
@@ -9,11 +9,11 @@ use Rattle.hashes.specs.Compression.{sha2}
 -- an algorithm: its ID, its digests' length in bytes, its digest of a message
 pub record Algorithm : Type 0 where
   pub id : ℕ
-  pub length : ℕ
+  pub bytes : ℕ
   pub digest : List ℕ → List ℕ
 
 abbrev pub algorithm : ℕ → ℕ → (List ℕ → List ℕ) → Algorithm
-algorithm i n f = record { id = i; length = n; digest = f }
+algorithm i n f = record { id = i; bytes = n; digest = f }
 
 -- the supported algorithms
 unfoldable pub algorithms : List Algorithm
@@ -23,17 +23,15 @@ algorithms =
     ∷ algorithm 4 64 (sha2 SHA2-512)
     ∷ []
 
-abbrev pub pick : Bool → Algorithm → Algorithm → Algorithm
-pick true x y = x
-pick false x y = y
-
 -- the algorithm of an ID; for every other ID one whose digests are empty
 unfoldable pub algorithmOf : List Algorithm → ℕ → Algorithm
 algorithmOf [] i = algorithm i 0 (λ m. [])
-algorithmOf (x ∷ xs) i = pick (eqb i (x .id)) x (algorithmOf xs i)
+algorithmOf (x ∷ xs) i = cond (eqb i (x .id)) x (algorithmOf xs i)
 
+-- the digest of a message, by the ID
 unfoldable pub digest : ℕ → List ℕ → List ℕ
 digest i m = algorithmOf algorithms i .digest m
 
+-- its length in bytes
 unfoldable pub digestLength : ℕ → ℕ
-digestLength i = algorithmOf algorithms i .length
+digestLength i = algorithmOf algorithms i .bytes

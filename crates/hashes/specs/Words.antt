@@ -2,7 +2,7 @@
 use Prim.Native.Nat.{ℕ, _+_, _-_, _*_, _/_, _%_, _^_}
 use lib.Bits.{bitAnd, bitOr, bitXor}
 
--- 3.2 (1): x + y modulo 2^w
+-- 3.2 (2): x + y modulo 2^w
 abbrev pub add : ℕ → ℕ → ℕ → ℕ
 add w x y = (x + y) % 2 ^ w
 

@@ -1,8 +1,8 @@
 // The command machine: what the proved bytes of a command file do to a unit.
 pub mod bare;
-pub mod commands;
-pub mod steps;
-pub mod turns;
+mod commands;
+mod steps;
+mod turns;
 
 ghost use mathlib.Core.Path.{_≡_};
 ghost use denote.Ref.{now};
