@@ -14,6 +14,11 @@ extern "C" {
  * A slice is a pointer and its length in bytes. It may lie at any address, without alignment, and
  * may be NULL where its length is 0. What a call writes to overlaps nothing else that is lent to it,
  * and nothing that is lent changes during the call. Image, header, map and table may overlap.
+ *
+ * The calls are for x86-64 and the System V convention. They use general registers, flags and xmm0 to
+ * xmm15, so SSE2 is on, and the 128 bytes below the stack pointer, so interrupts are off or handled on
+ * another stack. They keep no data between calls and want memcpy and memset, nothing else. How much
+ * stack each takes stands in docs/STUB.md.
  */
 enum {
     RUNNELPIN_DONE = 0,
