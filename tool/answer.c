@@ -180,7 +180,7 @@ static const struct {
     [RUNNELPIN_BLOCKS] = {"blocks", "count 0, size not over the hashsum length or over 1048576, or too much padding",
                           say_fields},
     [RUNNELPIN_IMAGE_LENGTH] = {"image length", "not header, signature and blocks together", say_fields},
-    [RUNNELPIN_BLOCK_HASHSUM] = {"block hashsum", "the block is not the one that was packed", say_block},
+    [RUNNELPIN_BLOCK_HASHSUM] = {"block hashsum", "it differs, so the block is not the one that was packed", say_block},
     [RUNNELPIN_BLOCK_PADDING] = {"block padding", "not zero", say_block},
     [RUNNELPIN_LAST_HASH] = {"last block", "its hash field is not zero", say_block},
     [RUNNELPIN_FILE_MAGIC] = {"file magic", "no command file, which begins with 5e b6 8c 44 a2 5f dc 8a", say_file},

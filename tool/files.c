@@ -20,14 +20,11 @@ struct totals file_totals(void)
     return totals;
 }
 
-struct bytes read_file(const char *path, uint64_t most)
+/* Reads to the end, or to one byte over `most`. */
+static struct bytes read_all(int file, const char *path, uint64_t most, uint64_t first)
 {
-    struct stat about;
-    int file = open(path, O_RDONLY);
-    if (file < 0 || fstat(file, &about))
-        fail("%s: can't be read: %s", path, strerror(errno));
     struct bytes all = {NULL, 0};
-    uint64_t room = 0, first = S_ISREG(about.st_mode) ? (uint64_t)about.st_size + 1 : 65536;
+    uint64_t room = 0;
     ssize_t got;
     do {
         if (all.length == room) {
@@ -41,6 +38,17 @@ struct bytes read_file(const char *path, uint64_t most)
     } while (got > 0 && all.length <= most);
     if (got < 0)
         fail("%s: can't be read: %s", path, strerror(errno));
+    return all;
+}
+
+struct bytes read_file(const char *path, uint64_t most)
+{
+    struct stat about;
+    int file = open(path, O_RDONLY);
+    if (file < 0 || fstat(file, &about))
+        fail("%s: can't be read: %s", path, strerror(errno));
+    uint64_t size = S_ISREG(about.st_mode) ? (uint64_t)about.st_size : 65536;
+    struct bytes all = size > most ? zeros(most + 1) : read_all(file, path, most, size + 1);
     close(file);
     totals.read += all.length;
     return all;
@@ -124,6 +132,8 @@ void write_file(const char *path, struct bytes content)
     signal(SIGXFSZ, SIG_IGN); /* a file over the size limit is an error like any other */
     struct stat old;
     if (stat(path, &old)) {
+        if (errno != ENOENT || !lstat(path, &old)) /* a link to nothing is left alone */
+            cant_write(path);
         mode_t mask = umask(0);
         umask(mask);
         replace(path, path, content, 0666 & ~mask);

@@ -4,7 +4,10 @@
 
 #include "bytes.h"
 
-/* The bytes of a file, pipe or device. At most `most` + 1 are read, so that a longer one is seen to be longer. */
+/*
+ * The bytes of a file, pipe or device. A longer one than `most` is only seen to be longer: it gives
+ * `most` + 1 bytes, whichever.
+ */
 struct bytes read_file(const char *path, uint64_t most);
 
 /*

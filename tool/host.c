@@ -83,12 +83,11 @@ struct bytes host_table(struct text *about)
     struct table table = {{allocate(NULL, MOST_RECORDS * RECORD_BYTES), 0}, 0, 0, 0};
     add_leaves(&table, 0);
     add_leaves(&table, 0x80000000);
-    say(about, "CPUID table of this machine: %zu records; left out are sub-leaves but of leaves 0x4, 0x7, 0xb and 0xd",
-        table.records.length / RECORD_BYTES);
-    say(about, ", and leaves from 0x40000000 up to 0x7fffffff");
+    say(about, "CPUID table of this machine: %zu records; left out: ", table.records.length / RECORD_BYTES);
+    say(about, "sub-leaves of leaves other than 0x4, 0x7, 0xb and 0xd; leaves from 0x40000000 to 0x7fffffff");
     if (table.left_out)
-        say(about, ", and %" PRIu64 " more records, from leaf 0x%" PRIx32 " sub-leaf %" PRIu32 " on", table.left_out,
-            table.leaf, table.sub_leaf);
+        say(about, "; %" PRIu64 " records from leaf 0x%" PRIx32 ", sub-leaf %" PRIu32 " on", table.left_out, table.leaf,
+            table.sub_leaf);
     return table.records;
 }
 

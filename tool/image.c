@@ -63,6 +63,11 @@ struct bytes own_header(struct bytes image)
     return image;
 }
 
+uint64_t own_signature_length(struct bytes header)
+{
+    return header.length < LEAST_HEADER ? 1 : field(header.at, FIELD_SIGNATURE_LENGTH);
+}
+
 uint64_t image_length(const uint8_t *header)
 {
     return field(header, FIELD_HEADER_SIZE) + field(header, FIELD_SIGNATURE_LENGTH) +

@@ -49,6 +49,9 @@ const struct hash *hash_of_id(uint64_t id);
 /* The header as the image itself has it, which nothing has approved. */
 struct bytes own_header(struct bytes image);
 
+/* The signature length that a header tells; one that is too short to tell it is refused with any. */
+uint64_t own_signature_length(struct bytes header);
+
 /* How long an image with this header is. */
 uint64_t image_length(const uint8_t *header);
 

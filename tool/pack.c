@@ -63,8 +63,8 @@ int job_pack(const struct request *request)
     r.call.answer.code = code;
     if (!code) {
         write_file(request->value[OPTION_OUTPUT], image);
-        say(&r.words, "done: an image of %zu bytes, %" PRIu64 " blocks of %" PRIu64 ", padding %" PRIu64, image.length,
-            field(image.at, FIELD_BLOCK_COUNT), p.block_size, field(image.at, FIELD_PADDING));
+        say(&r.words, "done: an image of %zu bytes, block count %" PRIu64 ", block size %" PRIu64 ", padding %" PRIu64,
+            image.length, field(image.at, FIELD_BLOCK_COUNT), p.block_size, field(image.at, FIELD_PADDING));
         say(note(&r), "the signature field, %" PRIu64 " bytes, is zero", p.signature_length);
     }
     return finish(&r);

@@ -14,7 +14,7 @@ int job_header(const struct request *request)
     c->is_image = 1;
     c->image = read_file(request->operand, LARGEST);
     c->header = own_header(c->image);
-    take_signature_length(&r);
+    c->signature_length = own_signature_length(c->header);
     c->answer.code = judge_image(c->image, c->header, c->signature_length);
     give_output(&r, c->header);
     if (!c->answer.code)

@@ -4,8 +4,9 @@
 #include "fail.h"
 #include "json.h"
 
-#include <inttypes.h>
+#include <errno.h>
 #include <stdio.h>
+#include <string.h>
 #include <unistd.h>
 
 struct report new_report(const struct request *request)
@@ -54,7 +55,7 @@ int finish(struct report *r)
     else
         print_text(r);
     if (fflush(stdout) || ferror(stdout))
-        fail("standard output can't be written");
+        fail("standard output can't be written: %s", strerror(errno));
     /* A terminal that shows both doesn't need the words twice. */
     if (is_refused && (is_json || !isatty(STDOUT_FILENO) || !isatty(STDERR_FILENO)))
         fprintf(stderr, "runnelpin: %s: %s\n", r->request->operand, r->words.at);

@@ -90,7 +90,7 @@ static void list_command(const struct command *c)
     close_part('}');
 }
 
-/* Lists the commands as far as bytes are known, and answers for them unless something is refused already. */
+/* Lists the commands as far as bytes are known. A refused one comes before a block that is refused behind it. */
 static void list_commands(struct report *r, const struct stream *file)
 {
     struct answer *a = &r->call.answer;
@@ -100,7 +100,7 @@ static void list_commands(struct report *r, const struct stream *file)
         list_command(&w.command);
     close_part(']');
     a->commands = w.whole;
-    if (!a->code) {
+    if (!a->code || (a->code > RUNNELPIN_IMAGE_LENGTH && w.code > RUNNELPIN_FILE_MAGIC)) {
         a->code = w.code;
         a->place = w.code ? w.offset : 0;
     }
@@ -125,8 +125,7 @@ static void show_image(struct report *r)
     c->is_image = 1;
     c->header = own_header(c->image);
     list_header(c->header);
-    if (c->header.length >= LEAST_HEADER)
-        c->signature_length = field(c->header.at, FIELD_SIGNATURE_LENGTH);
+    c->signature_length = own_signature_length(c->header);
     c->answer.code = judge_image(c->image, c->header, c->signature_length);
     if (!c->answer.code || c->answer.code == RUNNELPIN_IMAGE_LENGTH) {
         struct survey s = survey_blocks(c->image);
@@ -151,6 +150,8 @@ int job_show(const struct request *request)
     } else {
         struct stream file = stream_of_file(r.call.image);
         list_kind("command file", r.call.image);
+        if (r.call.image.length > LARGEST)
+            r.call.answer.code = RUNNELPIN_ARGUMENT;
         list_commands(&r, &file);
         if (r.call.answer.code == RUNNELPIN_FILE_MAGIC)
             say(note(&r), "nor is it an image, which begins with 98 95 01 e6");

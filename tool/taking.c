@@ -8,16 +8,12 @@
 
 const char not_approved[] = "nothing has approved this header";
 
-void take_signature_length(struct report *r)
+static void take_signature_length(struct report *r)
 {
-    struct bytes header = r->call.header;
-    uint64_t *length = &r->call.signature_length;
-    if (r->request->value[OPTION_SIGNATURE]) {
-        *length = option_number(r->request, OPTION_SIGNATURE, 0);
-    } else if (header.length >= LEAST_HEADER) {
-        *length = field(header.at, FIELD_SIGNATURE_LENGTH);
-        say(note(r), "the signature length expected is the header's own, %" PRIu64, *length);
-    }
+    uint64_t own = own_signature_length(r->call.header);
+    r->call.signature_length = option_number(r->request, OPTION_SIGNATURE, own);
+    if (!r->request->value[OPTION_SIGNATURE] && r->call.header.length >= LEAST_HEADER)
+        say(note(r), "the signature length expected is the header's own, %" PRIu64, own);
 }
 
 void take_image(struct report *r)

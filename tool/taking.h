@@ -6,11 +6,8 @@
 
 extern const char not_approved[];
 
-/* The image that is named, the approved header and the signature length that is expected. */
+/* The image, the approved header, and the signature length: a note says where it is the header's own. */
 void take_image(struct report *report);
-
-/* The length that is asked for, else the header's own, which a note says. */
-void take_signature_length(struct report *report);
 
 /* Writes the output that is asked for, where the job is done or where part of it is wanted on a refusal. */
 void give_output(struct report *report, struct bytes output);

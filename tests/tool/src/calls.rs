@@ -1,14 +1,14 @@
 //! The tool's subcommands with the types of the library's calls, so that the cases of the second
 //! program can be run on it. What no command line can ask for is left to the second program: an
-//! answer record or an output of another length, records that aren't whole, hashes without a name,
-//! and memory of gigabytes.
+//! answer record or an output of another length, records that aren't whole, hashes without a name.
+//! So are megabytes.
 
 use crate::desk::{Desk, Said};
 use crate::json::Value;
 use second::answer::{number, Answer, RECORD};
 use second::{load, machine, sbs};
 
-const MOST_MEMORY: usize = 1 << 20;
+const MOST: usize = 1 << 20;
 
 /// Lines of the numbers in records, hexadecimal and decimal in turn.
 pub fn list(bytes: &[u8], numbers: usize, width: usize) -> String {
@@ -63,12 +63,10 @@ fn board(desk: &Desk, map: &[u8], cpuid: &[u8], mode: u64, memory: &[u8]) -> Str
     format!("--map map --cpuid table --mode {mode} --memory memory --partial --json -o after")
 }
 
-fn can_be_asked(map: &[u8], cpuid: &[u8], memory: &[u8], answer: &[u8]) -> bool {
+fn can_be_asked(input: &[u8], map: &[u8], cpuid: &[u8], memory: &[u8], answer: &[u8]) -> bool {
     let is_whole = |bytes: &[u8], record| bytes.chunks_exact(record).remainder().is_empty();
-    is_whole(map, 16)
-        && is_whole(cpuid, 24)
-        && memory.len() <= MOST_MEMORY
-        && answer.len() == RECORD
+    let are_whole = is_whole(map, 16) && is_whole(cpuid, 24) && answer.len() == RECORD;
+    are_whole && input.len().max(memory.len()) <= MOST
 }
 
 fn take_output(desk: &Desk, name: &str, output: &mut [u8]) {
@@ -86,7 +84,7 @@ pub fn run(
     memory: &mut [u8],
     answer: &mut [u8],
 ) -> u64 {
-    if !can_be_asked(map, cpuid, memory, answer) {
+    if !can_be_asked(file, map, cpuid, memory, answer) {
         return machine::run(file, map, cpuid, mode, memory, answer);
     }
     let desk = Desk::new();
@@ -108,7 +106,7 @@ pub fn load(
     memory: &mut [u8],
     answer: &mut [u8],
 ) -> u64 {
-    if !can_be_asked(map, cpuid, memory, answer) {
+    if !can_be_asked(image, map, cpuid, memory, answer) {
         return load::load(
             image,
             header,
@@ -146,7 +144,7 @@ pub fn open(
         &mut output.to_vec(),
         &mut record,
     ) != 29;
-    if answer.len() != RECORD || !is_exact {
+    if answer.len() != RECORD || image.len() > MOST || !is_exact {
         return sbs::open(image, header, signature_length, output, answer);
     }
     let desk = Desk::new();
@@ -180,7 +178,7 @@ pub fn pack(
         signature_length,
         &mut output.to_vec(),
     ) != 29;
-    if names.contains(&"") || !is_exact {
+    if names.contains(&"") || file.len() > MOST || !is_exact {
         return sbs::pack(file, ids, block_size, signature_length, output);
     }
     let desk = Desk::new();
@@ -195,6 +193,9 @@ pub fn pack(
 
 /// The field's start is the header's length: the tool gives out its bytes alone.
 pub fn signature(image: &[u8], header: &[u8], signature_length: u64) -> (u64, u64) {
+    if image.len() > MOST {
+        return sbs::signature(image, header, signature_length);
+    }
     let desk = Desk::new();
     desk.put("image", image);
     desk.put("header", header);

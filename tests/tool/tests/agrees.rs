@@ -9,9 +9,9 @@ use second::{load, machine, sbs};
 use std::env;
 use tool::calls;
 
-/// Runs cases that have seeds from 1 on, a few hundred: each starts the tool.
+/// Runs the cases of the first seeds. They are few, since each starts the tool.
 fn agree<C: Case>(one: C::Call, other: C::Call) {
-    let cases = env::var("TOOL_CASES").map_or(400, |text| text.parse().unwrap());
+    let cases = env::var("TOOL_CASES").map_or(150, |text| text.parse().unwrap());
     for seed in 1..=cases {
         let case = C::make(&mut Random::new(seed));
         assert_eq!(case.run(one), case.run(other), "seed {seed}: {case:#?}");

@@ -2,7 +2,7 @@
 //! no output, old or new, touched.
 
 use std::fs;
-use std::os::unix::fs::PermissionsExt;
+use std::os::unix::fs::{symlink, PermissionsExt};
 use std::process::Command;
 use tool::desk::{self, Desk, Said};
 use tool::sample;
@@ -222,13 +222,15 @@ fn headers_of_one_byte_and_images_cut_short() {
 fn outputs_that_cant_be_made() {
     let desk = sample::desk();
     fs::create_dir(desk.path("folder")).unwrap();
+    symlink("nothing", desk.path("link")).unwrap();
     for (name, reason) in [
         ("folder", "can't be written: Is a directory"),
+        ("link", "can't be written: No such file or directory"),
         (
             "nothing/out",
             "can't make a file beside it: No such file or directory",
         ),
-        ("file/out", "can't make a file beside it: Not a directory"),
+        ("file/out", "can't be written: Not a directory"),
         ("/dev/full", "can't be written: No space left on device"),
     ] {
         let part = format!("{name}: {reason}");

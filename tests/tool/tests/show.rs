@@ -195,6 +195,26 @@ fn cut_and_changed() {
     }
 }
 
+/// A refused command is met before a bad block behind it.
+#[test]
+fn what_is_wrong_first_is_the_answer() {
+    let desk = sample::desk();
+    let file = File::new().command(7, &[]).write(0x1000, &[0; 400]);
+    let mut image = sample::image(&file.0);
+    image[block_start(3)] ^= 1;
+    desk.put("image", image);
+    let json = desk.run("show image --json").json();
+    assert_eq!(numbers(&json, ["code", "place", "commands"]), [18, 8, 0]);
+    assert_eq!(
+        numbers(&json["blocks"], ["proved", "refused_with"]),
+        [2, 13]
+    );
+    assert_eq!(
+        notes(&json)[0],
+        format!("the file is good up to byte 8 of {}", file.0.len())
+    );
+}
+
 #[test]
 fn an_image_of_no_commands_and_what_is_no_image() {
     let desk = sample::desk();

@@ -3,6 +3,7 @@
 use second::cases::run_lines::File;
 use second::sbs::{chain, field};
 use std::collections::BTreeSet;
+use std::fs;
 use tool::desk::Desk;
 use tool::sample::{self, block_start, BLOCK, HEADER, SIGNATURE};
 
@@ -56,6 +57,17 @@ fn arguments(met: &mut BTreeSet<u64>) {
         &format!("{load} --signature 4097"),
         &["refused: 1, ", part],
     );
+    let large = fs::File::create(desk.path("large")).unwrap();
+    large.set_len((1 << 30) + 1).unwrap();
+    let parts = ["refused: 1, ", "; it is over 2^30 bytes"];
+    for words in [
+        "load large --header header --map map",
+        "run large --map map",
+        "pack large -o out",
+        "show large",
+    ] {
+        refused(&desk, met, words, &parts);
+    }
     for (map, part) in [
         ("", "it has 0 regions, where 1 to 16 are allowed"),
         ("0 1\n", "memory has 3 bytes, the regions 1"),
