@@ -1,7 +1,10 @@
-.PHONY: help test prove archives tool stub bench
+.PHONY: help demo test prove archives tool stub bench
 
 help: ## print this
 	@sed -n 's/^\([a-z]*\):.*## /make \1: /p' Makefile
+
+demo: ## the main job step by step, from the build to a refused image; wants nothing but the kit
+	@tools/demo
 
 test: ## everything from nothing: proofs, must-fail edits, Rust tests, comparisons; ends in 'N passed, M failed'
 	@tools/test
@@ -9,11 +12,13 @@ test: ## everything from nothing: proofs, must-fail edits, Rust tests, compariso
 prove: ## prove what has changed since it was last proved, and run the Rattle programs
 	@rt check
 
-archives: ## build/libNAME.a of each crate that exports calls, for C or Rust to link
+archives: build/librunnelpin.a ## build/libNAME.a of each crate that exports calls, for C or Rust to link
+
+# One run makes them all. A folder is newer when a file in it came or went.
+build/librunnelpin.a: crates.txt $(shell find crates)
 	@tools/archives
 
-tool: archives ## build/runnelpin, the command-line tool; 'man ./docs/runnelpin.1' tells of it
-	@$(MAKE) -s build/runnelpin
+tool: build/runnelpin ## build/runnelpin, the command-line tool; 'man ./docs/runnelpin.1' tells of it
 
 TOOL = $(CC) -std=c99 -Wall -Wextra -Werror -Iinclude tool/*.c build/librunnelpin.a -o $@
 TOOL_PARTS = build/librunnelpin.a include/runnelpin.h $(wildcard tool/*.[ch])

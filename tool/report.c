@@ -1,4 +1,4 @@
-#define _DEFAULT_SOURCE /* isatty */
+#define _DEFAULT_SOURCE /* fstat, STDOUT_FILENO */
 #include "report.h"
 
 #include "fail.h"
@@ -7,6 +7,7 @@
 #include <errno.h>
 #include <stdio.h>
 #include <string.h>
+#include <sys/stat.h>
 #include <unistd.h>
 
 struct report new_report(const struct request *request)
@@ -45,6 +46,14 @@ static void print_text(const struct report *r)
         puts(r->notes[i].at);
 }
 
+/* Whether answers and errors go to the same terminal, file or pipe. */
+static int is_one_place(void)
+{
+    struct stat out, err;
+    return !fstat(STDOUT_FILENO, &out) && !fstat(STDERR_FILENO, &err) && out.st_dev == err.st_dev &&
+           out.st_ino == err.st_ino;
+}
+
 int finish(struct report *r)
 {
     int is_refused = r->call.answer.code != 0, is_json = r->request->value[OPTION_JSON] != NULL;
@@ -56,8 +65,7 @@ int finish(struct report *r)
         print_text(r);
     if (fflush(stdout) || ferror(stdout))
         fail("standard output can't be written: %s", strerror(errno));
-    /* A terminal that shows both doesn't need the words twice. */
-    if (is_refused && (is_json || !isatty(STDOUT_FILENO) || !isatty(STDERR_FILENO)))
+    if (is_refused && (is_json || !is_one_place()))
         fprintf(stderr, "runnelpin: %s: %s\n", r->request->operand, r->words.at);
     return is_refused ? STATUS_REFUSED : STATUS_DONE;
 }

@@ -268,12 +268,21 @@ fn time_and_sizes_are_shown_on_a_terminal_only() {
     }
 }
 
+/// On a terminal, in a log and in a pipe; JSON is for a program, and the line beside it for a person.
 #[test]
-fn on_a_terminal_a_refusal_is_said_once() {
+fn where_both_go_to_one_place_a_refusal_is_said_once() {
     let desk = sample::desk();
     let line = format!("{} run header --map map", tool::desk::tool().display());
-    let said = desk.shell(&format!("script -qec '{line}' /dev/null"));
-    assert_eq!(said.out.matches("refused: 16").count(), 1, "{said:?}");
+    for (shown, times) in [
+        (format!("script -qec '{line}' /dev/null"), 1),
+        (format!("{line} >log 2>&1; cat log"), 1),
+        (format!("{line} 2>&1 | cat"), 1),
+        (format!("{line} --json 2>&1 | cat"), 2),
+        (format!("{line} >log 2>errors; cat log errors"), 2),
+    ] {
+        let said = desk.shell(&shown);
+        assert_eq!(said.out.matches("refused: 16").count(), times, "{said:?}");
+    }
 }
 
 #[test]
