@@ -3,9 +3,9 @@
  * sound call with its whole answer, then each parameter's own refusal. Wanted values are worked out by hand from
  * document 01. C99 and C++ alike.
  */
+#include "expect.h"
 #include "runnelpin.h"
 
-#include <stdio.h>
 #include <string.h>
 
 #define WIDE (UINT64_C(1) << 32) /* a number that must not be cut to 32 bits */
@@ -40,17 +40,6 @@ static const int codes[] = {
 };
 
 static uint8_t image[IMAGE + 1], header[HEADER + 1], memory[MEMORY], output[FILE_BYTES], answer[RUNNELPIN_ANSWER_BYTES];
-static int passed, failed;
-
-static void expect(const char *what, uint64_t found, uint64_t wanted)
-{
-    if (found == wanted) {
-        passed++;
-        return;
-    }
-    failed++;
-    printf("%s: %llu, and not %llu\n", what, (unsigned long long)found, (unsigned long long)wanted);
-}
 
 static uint64_t number(const uint8_t *bytes, size_t width)
 {
@@ -239,6 +228,5 @@ int main(void)
     test_open();
     test_run();
     test_load();
-    printf("%d passed, %d failed\n", passed, failed);
-    return failed != 0;
+    return end();
 }
