@@ -20,8 +20,9 @@ build/librunnelpin.a: crates.txt $(shell find crates)
 
 tool: build/runnelpin ## build/runnelpin, the command-line tool; 'man ./docs/runnelpin.1' tells of it
 
-TOOL = $(CC) -std=c99 -Wall -Wextra -Werror -Iinclude tool/*.c build/librunnelpin.a -o $@
-TOOL_PARTS = build/librunnelpin.a include/runnelpin.h $(wildcard tool/*.[ch])
+TOOL = $(CC) -std=c99 -Wall -Wextra -Werror -Iinclude -Istub tool/*.c $(SHARED) build/librunnelpin.a -o $@
+SHARED = stub/cpuid.c stub/words.c
+TOOL_PARTS = build/librunnelpin.a include/runnelpin.h $(wildcard tool/*.[ch]) $(SHARED) $(SHARED:.c=.h)
 
 build/runnelpin: $(TOOL_PARTS)
 	@$(TOOL) -O2

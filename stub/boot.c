@@ -27,20 +27,10 @@ struct answer boot_load(const struct unit *unit, struct slice image, struct slic
     return answer;
 }
 
-struct slice boot_cpuid(void)
+struct slice boot_cpuid(struct cpuid_table *table)
 {
-    static uint32_t records[2][6];
-    struct slice table = { (const uint8_t *)records, sizeof records };
-
-    for (uint32_t leaf = 0; leaf < 2; leaf++) {
-        uint32_t *record = records[leaf];
-        record[0] = leaf;
-        record[1] = 0;
-        __asm__ volatile("cpuid"
-                         : "=a"(record[2]), "=b"(record[3]), "=c"(record[4]), "=d"(record[5])
-                         : "a"(leaf), "c"(0));
-    }
-    return table;
+    read_cpuid(table);
+    return (struct slice){ (const uint8_t *)table->records, table->count * sizeof *table->records };
 }
 
 int boot_is_ram(struct slice map, uint64_t address)

@@ -5,6 +5,8 @@
 #include <stddef.h>
 #include <stdint.h>
 
+#include "cpuid.h"
+
 struct slice {
     const uint8_t *at;
     size_t length;
@@ -27,8 +29,8 @@ struct answer {
 /* Loads an image under the header that the security chip has approved. */
 struct answer boot_load(const struct unit *unit, struct slice image, struct slice header);
 
-/* The CPUID table, read from the processor: leaves 0 and 1. */
-struct slice boot_cpuid(void);
+/* The CPUID table, read from the processor. */
+struct slice boot_cpuid(struct cpuid_table *table);
 
 /* The number that at most eight little-endian bytes spell. */
 uint64_t boot_number(const uint8_t *bytes, size_t length);

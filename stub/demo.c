@@ -16,6 +16,7 @@ void demo(void);
 
 static uint8_t memory[MEMORY_LENGTH] __attribute__((aligned(4096)));
 static uint8_t damaged[1 << 16];
+static struct cpuid_table table;
 static const uint64_t regions[2][2] = { { LOW_BASE, LOW_LENGTH }, { HIGH_BASE, HIGH_LENGTH } };
 
 static void end(uint64_t status)
@@ -60,7 +61,7 @@ void demo(void)
 {
     struct slice image = { built_in_image, (size_t)(built_in_image_end - built_in_image) };
     struct slice header = { approved_header, (size_t)(approved_header_end - approved_header) };
-    struct unit unit = { { (const uint8_t *)regions, sizeof regions }, boot_cpuid(), 64, SIGNATURE_LENGTH,
+    struct unit unit = { { (const uint8_t *)regions, sizeof regions }, boot_cpuid(&table), 64, SIGNATURE_LENGTH,
                          memory, sizeof memory };
 
     struct answer refusal = load_damaged(&unit, image, header);

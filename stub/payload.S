@@ -1,23 +1,8 @@
 /* The program inside the sample image. It looks at the state that it was entered with, and says what it saw. */
 #include "unit.h"
+#include "registers.inc"
         .text
-        jc      registers
-        jz      registers
-        js      registers
-        jo      registers
-        jp      registers
-        .irp    r, rbx, rcx, rdx, rsi, rdi, rbp, rsp, r8, r9, r10, r11, r12, r13, r14, r15
-        or      %\r, %rax
-        .endr
-        .irp    n, 1, 2, 3, 4, 5, 6, 7, 8, 9, 10, 11, 12, 13, 14, 15
-        por     %xmm\n, %xmm0
-        .endr
-        movq    %xmm0, %rbx
-        psrldq  $8, %xmm0
-        movq    %xmm0, %rcx
-        or      %rbx, %rax
-        or      %rcx, %rax
-        jnz     registers
+        unless_zero registers
 
         cmpl    $MARK, HIGH_BASE
         jne     memory

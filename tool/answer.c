@@ -3,6 +3,7 @@
 #include "command.h"
 #include "image.h"
 #include "runnelpin.h"
+#include "words.h"
 
 #include <inttypes.h>
 
@@ -161,54 +162,47 @@ static void say_end(struct text *text, const struct call *c)
     say(text, "; file offset %" PRIu64 ": the end", c->answer.place);
 }
 
-/* The codes: a name, what it means, and who says the rest. */
-static const struct {
-    const char *name, *meaning;
-    void (*rest)(struct text *, const struct call *);
-} codes[] = {
-    [RUNNELPIN_ARGUMENT] = {"argument", "mode not 32 or 64, signature length not 1 to 4096, or over 2^30 bytes",
-                            say_argument},
-    [RUNNELPIN_MAP] = {"map", "it breaks a rule, or memory is not as long as its regions", say_map},
-    [RUNNELPIN_TABLE] = {"CPUID table", "it breaks a rule", say_table},
-    [RUNNELPIN_APPROVED] = {"approved header", "under 36 bytes, or the image doesn't begin with it", say_difference},
-    [RUNNELPIN_HEADER_MAGIC] = {"header magic", "not 0xe6019598", say_fields},
-    [RUNNELPIN_HASH_ID] = {"hash", "one that is not supported, or none at the first position", say_fields},
-    [RUNNELPIN_HASHSUM_LENGTH] = {"hashsum length", "not that of the hashes", say_fields},
-    [RUNNELPIN_HEADER_SIZE] = {"header size", "not 36 and the hashsum length, or not as many as approved", say_fields},
-    [RUNNELPIN_SCHEME] = {"signature scheme", "not 1", say_fields},
-    [RUNNELPIN_SIGNATURE_LENGTH] = {"signature length", "not the expected one", say_fields},
-    [RUNNELPIN_BLOCKS] = {"blocks", "count 0, size not over the hashsum length or over 1048576, or too much padding",
-                          say_fields},
-    [RUNNELPIN_IMAGE_LENGTH] = {"image length", "not header, signature and blocks together", say_fields},
-    [RUNNELPIN_BLOCK_HASHSUM] = {"block hashsum", "it differs, so the block is not the one that was packed", say_block},
-    [RUNNELPIN_BLOCK_PADDING] = {"block padding", "not zero", say_block},
-    [RUNNELPIN_LAST_HASH] = {"last block", "its hash field is not zero", say_block},
-    [RUNNELPIN_FILE_MAGIC] = {"file magic", "no command file, which begins with 5e b6 8c 44 a2 5f dc 8a", say_file},
-    [RUNNELPIN_COMMAND_CUT] = {"command cut", "it runs past the end of the file", say_place},
-    [RUNNELPIN_COMMAND_ID] = {"command unknown", "there is none of this number", say_place},
-    [RUNNELPIN_COMMAND_LENGTH] = {"command length", "not that of such a command", say_place},
-    [RUNNELPIN_NOT_REACHABLE] = {"not reachable", "an address past what the mode reaches", say_place},
-    [RUNNELPIN_NOT_RAM] = {"not RAM", "an address in no region of the map", say_place},
-    [RUNNELPIN_TEXT] = {"check text", "it has no zero byte", say_place},
-    [RUNNELPIN_CPUID_MISSING] = {"no CPUID", "a check, and there is no table", say_place},
-    [RUNNELPIN_REGISTER] = {"check register", "over 3", say_place},
-    [RUNNELPIN_NO_RECORD] = {"no CPUID record", "the table has none with these inputs", say_place},
-    [RUNNELPIN_CHECK_FAILED] = {"CPUID check", "it failed", say_place},
-    [RUNNELPIN_NO_ENTRY] = {"no entry", "the file ended without an entry command", say_end},
-    [RUNNELPIN_EMPTY_FILE] = {"empty file", "there is nothing to pack", NULL},
-    [RUNNELPIN_OUTPUT_LENGTH] = {"output length", "not the exact one", NULL},
+/* Who says the rest, behind a code's own words. */
+static void (*const rests[CODES])(struct text *, const struct call *) = {
+    [RUNNELPIN_ARGUMENT] = say_argument,
+    [RUNNELPIN_MAP] = say_map,
+    [RUNNELPIN_TABLE] = say_table,
+    [RUNNELPIN_APPROVED] = say_difference,
+    [RUNNELPIN_HEADER_MAGIC] = say_fields,
+    [RUNNELPIN_HASH_ID] = say_fields,
+    [RUNNELPIN_HASHSUM_LENGTH] = say_fields,
+    [RUNNELPIN_HEADER_SIZE] = say_fields,
+    [RUNNELPIN_SCHEME] = say_fields,
+    [RUNNELPIN_SIGNATURE_LENGTH] = say_fields,
+    [RUNNELPIN_BLOCKS] = say_fields,
+    [RUNNELPIN_IMAGE_LENGTH] = say_fields,
+    [RUNNELPIN_BLOCK_HASHSUM] = say_block,
+    [RUNNELPIN_BLOCK_PADDING] = say_block,
+    [RUNNELPIN_LAST_HASH] = say_block,
+    [RUNNELPIN_FILE_MAGIC] = say_file,
+    [RUNNELPIN_COMMAND_CUT] = say_place,
+    [RUNNELPIN_COMMAND_ID] = say_place,
+    [RUNNELPIN_COMMAND_LENGTH] = say_place,
+    [RUNNELPIN_NOT_REACHABLE] = say_place,
+    [RUNNELPIN_NOT_RAM] = say_place,
+    [RUNNELPIN_TEXT] = say_place,
+    [RUNNELPIN_CPUID_MISSING] = say_place,
+    [RUNNELPIN_REGISTER] = say_place,
+    [RUNNELPIN_NO_RECORD] = say_place,
+    [RUNNELPIN_CHECK_FAILED] = say_place,
+    [RUNNELPIN_NO_ENTRY] = say_end,
 };
 
 void say_refusal(struct text *text, const struct call *c)
 {
     uint64_t code = c->answer.code;
-    if (code >= sizeof codes / sizeof *codes || !codes[code].name) {
+    if (code >= CODES) {
         say(text, "refused: %" PRIu64 ", which this tool has no words for", code);
         return;
     }
-    say(text, "refused: %" PRIu64 ", %s: %s", code, codes[code].name, codes[code].meaning);
-    if (codes[code].rest)
-        codes[code].rest(text, c);
+    say(text, "refused: %" PRIu64 ", %s: %s", code, code_words[code].name, code_words[code].meaning);
+    if (rests[code])
+        rests[code](text, c);
     if (c->board.map.length && code > RUNNELPIN_IMAGE_LENGTH)
         say(text, "; commands done %" PRIu64 ", bytes stored %" PRIu64 ", entry 0", c->answer.commands,
             c->answer.stored);

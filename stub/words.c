@@ -1,0 +1,36 @@
+#include "words.h"
+
+#include "runnelpin.h"
+
+const struct words code_words[CODES] = {
+    [RUNNELPIN_DONE] = { "done", "the whole file was run" },
+    [RUNNELPIN_ARGUMENT] = { "argument", "mode not 32 or 64, signature length not 1 to 4096, or over 2^30 bytes" },
+    [RUNNELPIN_MAP] = { "map", "it breaks a rule, or memory is not as long as its regions" },
+    [RUNNELPIN_TABLE] = { "CPUID table", "it breaks a rule" },
+    [RUNNELPIN_APPROVED] = { "approved header", "under 36 bytes, or the image doesn't begin with it" },
+    [RUNNELPIN_HEADER_MAGIC] = { "header magic", "not 0xe6019598" },
+    [RUNNELPIN_HASH_ID] = { "hash", "one that is not supported, or none at the first position" },
+    [RUNNELPIN_HASHSUM_LENGTH] = { "hashsum length", "not that of the hashes" },
+    [RUNNELPIN_HEADER_SIZE] = { "header size", "not 36 and the hashsum length, or not as many as approved" },
+    [RUNNELPIN_SCHEME] = { "signature scheme", "not 1" },
+    [RUNNELPIN_SIGNATURE_LENGTH] = { "signature length", "not the expected one" },
+    [RUNNELPIN_BLOCKS] = { "blocks", "count 0, size not over the hashsum length or over 1048576, or too much padding" },
+    [RUNNELPIN_IMAGE_LENGTH] = { "image length", "not header, signature and blocks together" },
+    [RUNNELPIN_BLOCK_HASHSUM] = { "block hashsum", "it differs, so the block is not the one that was packed" },
+    [RUNNELPIN_BLOCK_PADDING] = { "block padding", "not zero" },
+    [RUNNELPIN_LAST_HASH] = { "last block", "its hash field is not zero" },
+    [RUNNELPIN_FILE_MAGIC] = { "file magic", "no command file, which begins with 5e b6 8c 44 a2 5f dc 8a" },
+    [RUNNELPIN_COMMAND_CUT] = { "command cut", "it runs past the end of the file" },
+    [RUNNELPIN_COMMAND_ID] = { "command unknown", "there is none of this number" },
+    [RUNNELPIN_COMMAND_LENGTH] = { "command length", "not that of such a command" },
+    [RUNNELPIN_NOT_REACHABLE] = { "not reachable", "an address past what the mode reaches" },
+    [RUNNELPIN_NOT_RAM] = { "not RAM", "an address in no region of the map" },
+    [RUNNELPIN_TEXT] = { "check text", "it has no zero byte" },
+    [RUNNELPIN_CPUID_MISSING] = { "no CPUID", "a check, and there is no table" },
+    [RUNNELPIN_REGISTER] = { "check register", "over 3" },
+    [RUNNELPIN_NO_RECORD] = { "no CPUID record", "the table has none with these inputs" },
+    [RUNNELPIN_CHECK_FAILED] = { "CPUID check", "it failed" },
+    [RUNNELPIN_NO_ENTRY] = { "no entry", "the file ended without an entry command" },
+    [RUNNELPIN_EMPTY_FILE] = { "empty file", "there is nothing to pack" },
+    [RUNNELPIN_OUTPUT_LENGTH] = { "output length", "not the exact one" },
+};
