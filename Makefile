@@ -1,7 +1,7 @@
-.PHONY: help demo test prove archives tool stub bench
+.PHONY: help demo test prove archives tool stub boot boot-grub bench
 
 help: ## print this
-	@sed -n 's/^\([a-z]*\):.*## /make \1: /p' Makefile
+	@sed -n 's/^\([a-z-]*\):.*## /make \1: /p' Makefile
 
 demo: ## the main job step by step, from the build to a refused image; wants nothing but the kit
 	@tools/demo
@@ -33,6 +33,12 @@ build/runnelpin-watched: $(TOOL_PARTS)
 
 stub: archives ## the example boot stub, built and run, and the stack that each call needs
 	@tools/stub && tools/stack
+
+boot: tool ## a machine in an emulator, booted by the proved loader from a signed image
+	@tools/boot
+
+boot-grub: tool ## the same from an ISO with GRUB
+	@tools/boot grub
 
 bench: archives ## the library's speed against plain Rust, and OpenSSL where it is
 	@cd tests && cargo run --quiet --release --bin bench

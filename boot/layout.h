@@ -1,0 +1,25 @@
+/* Where things are in the stub's address space. Read by C and by assembly. */
+#ifndef LAYOUT_H
+#define LAYOUT_H
+
+#define PAGE 0x1000
+
+/* Physical memory stands at its own addresses up to here, in pages of 2 MiB: 16 directories. */
+#define IDENTITY_LIMIT 0x400000000
+#define LARGE_PAGE 0x200000
+
+/* The window: the lent regions one behind the other. Its slot of the top table is its own. */
+#define WINDOW_SLOT 1
+#define WINDOW_BASE 0x8000000000
+
+/* The most that is lent, which is the most that the loader takes. */
+#define LENDING_LIMIT 0x100000000
+
+/* Bits of a page table's entry. */
+#define PRESENT 1
+#define WRITABLE 2
+#define LARGE 0x80
+
+#define STACK_BYTES 0x4000
+
+#endif

@@ -1,0 +1,108 @@
+/* The stub as a whole: what was handed over, what is lent, the load, and on 0 only the hand-off. */
+#include "approved.h"
+#include "boot.h"
+#include "depth.h"
+#include "handed.h"
+#include "layout.h"
+#include "report.h"
+#include "runnelpin.h"
+#include "serial.h"
+#include "status.h"
+#include "stub.h"
+#include "window.h"
+
+static struct handed handed;
+static struct regions regions;
+static struct cpuid_table table;
+
+__attribute__((noreturn)) static void refuse(uint8_t number, const char *why)
+{
+    say("stub: ");
+    say(why);
+    say("\n");
+    end(number);
+}
+
+static int is_mapped(struct slice image)
+{
+    uint64_t base = (uint64_t)(uintptr_t)image.at;
+    return image.length && base < IDENTITY_LIMIT && image.length <= IDENTITY_LIMIT - base;
+}
+
+/* Everything that stands in memory and is not in the stub or the image is copied here, before memory is lent. */
+static struct slice take(uint32_t magic, uint64_t info)
+{
+    int number = take_handed(magic, info, &handed);
+    struct slice header = approved_header(handed.command_line);
+
+    if (number == END_PROTOCOL)
+        refuse(END_PROTOCOL, "no memory map by PVH or multiboot2");
+    if (number)
+        refuse(END_RANGES, "the memory map is too long");
+    if (!is_mapped(handed.image))
+        refuse(END_MODULE, "no image as a boot module");
+    if (!header.length)
+        refuse(END_HEADER, "no approved header, the word header=HEX of the command line");
+    say_handed(&handed, header);
+    return header;
+}
+
+static void find_memory(void)
+{
+    uint64_t begin = (uint64_t)(uintptr_t)stub_begin, length = (uint64_t)(stub_end - stub_begin);
+    add_range(&handed.ranges, 0, PAGE, 0);
+    add_range(&handed.ranges, begin, length, 0);
+    add_range(&handed.ranges, (uint64_t)(uintptr_t)handed.image.at, handed.image.length, 0);
+    if (handed.ranges.overflowed)
+        refuse(END_RANGES, "the memory map is too long");
+    find_regions(&handed.ranges, &regions);
+    say_memory(&regions, handed.image);
+}
+
+/* The length that the chip approved with the rest of the header; one too short to tell it is refused with any. */
+static uint64_t signature_length(struct slice header)
+{
+    return header.length < 16 ? 1 : boot_number(header.at + 12, 4);
+}
+
+static struct slice map(void)
+{
+    return (struct slice){ (const uint8_t *)regions.map, regions.count * sizeof *regions.map };
+}
+
+static struct answer load(struct slice header)
+{
+    struct unit unit = { map(), boot_cpuid(&table), MODE, signature_length(header), open_window(&regions),
+                         regions.length };
+    uint8_t *pointer = stack_pointer();
+    struct answer answer;
+
+    say_cpuid(&table);
+    paint_stack(pointer);
+    answer = boot_load(&unit, handed.image, header);
+    say("stack used by the call: ");
+    say_number(stack_used(pointer));
+    say(" bytes\n");
+    say_answer(answer);
+    return answer;
+}
+
+void boot(uint32_t magic, uint64_t info)
+{
+    struct slice header;
+    struct answer answer;
+
+    open_serial();
+    header = take(magic, info);
+    find_memory();
+    answer = load(header);
+    if (answer.code > RUNNELPIN_NO_ENTRY)
+        refuse(END_CODE, "the loader has no such answer");
+    if (answer.code != RUNNELPIN_DONE)
+        end((uint8_t)answer.code);
+    if (!boot_is_ram(map(), answer.entry))
+        refuse(END_ENTRY, "the entry is not in lent RAM");
+    say("entering\n");
+    drop_window();
+    boot_hand_off(answer.entry);
+}
