@@ -12,8 +12,10 @@
 #define WINDOW_SLOT 1
 #define WINDOW_BASE 0x8000000000
 
-/* The most that is lent, which is the most that the loader takes. */
+/* The most that is lent: a multiple of 2 MiB, and at most 4 GiB, which is what the loader takes. */
+#ifndef LENDING_LIMIT
 #define LENDING_LIMIT 0x100000000
+#endif
 
 /* Bits of a page table's entry. */
 #define PRESENT 1

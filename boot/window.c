@@ -5,6 +5,7 @@
 enum { ENTRIES = PAGE / 8 };
 #define PAGES (LENDING_LIMIT / PAGE)
 #define TABLES (PAGES / ENTRIES)
+#define DIRECTORIES ((TABLES + ENTRIES - 1) / ENTRIES)
 #define IN_USE (PRESENT | WRITABLE)
 
 /*
@@ -12,7 +13,7 @@ enum { ENTRIES = PAGE / 8 };
  * whole pages and together at most LENDING_LIMIT: there is an entry for each, and nothing to run out of.
  */
 static uint64_t pages[PAGES] __attribute__((aligned(PAGE)));
-static uint64_t directories[TABLES] __attribute__((aligned(PAGE)));
+static uint64_t directories[DIRECTORIES * ENTRIES] __attribute__((aligned(PAGE)));
 static uint64_t pointers[ENTRIES] __attribute__((aligned(PAGE)));
 
 extern uint64_t top_table[];
@@ -40,7 +41,7 @@ uint8_t *open_window(const struct regions *regions)
     }
     for (size_t i = 0; i < TABLES; i++)
         directories[i] = entry_of(pages + i * ENTRIES);
-    for (size_t i = 0; i < TABLES / ENTRIES; i++)
+    for (size_t i = 0; i < DIRECTORIES; i++)
         pointers[i] = entry_of(directories + i * ENTRIES);
     set_window(entry_of(pointers));
     return (uint8_t *)(uintptr_t)WINDOW_BASE;
