@@ -25,7 +25,7 @@ use Rattle.machine.specs.Memory.{applied}
 use Rattle.machine.specs.declared.Phase.{Phase}
 use Rattle.machine.specs.declared.Phase.the-variants.{Magic, Header, Parameters, Storing, Skipping, Stopped}
 use Rattle.machine.proofs.MemoryLaws.{applied-append}
-use Rattle.machine.proofs.TurnLaws.{stopped-is}
+use Rattle.machine.proofs.TurnLaws.{ready-begun, ready-again, stopped-is}
 use Rattle.loader.proofs.Fold.{state-more, stores-more, stopped-answers, bad-answers}
 use Rattle.loader.proofs.LoadLaws.{taken, file-short, all-stopped, answerMade, storesMade, load-is, load-answered}
 use Rattle.loader.specs.Code.{Loadable, offerOf, BlocksLoaded, badAnswer}
@@ -137,12 +137,7 @@ pub piece-ready : (image approved map table : List ℕ) (mode : ℕ) (before mem
 piece-ready image approved map table mode before memory k s size f l e =
     let o : Offer = offerOf image approved map table mode in
     let q : Passed image approved (headerOf approved .signature) = passed image approved (headerOf approved .signature) (f .passes) in
-    rw (e, l .size)
-    (record {
-      short = file-short o q (f .short);
-      taken = f .taken;
-      reached = (fileUpTo (header o) (block o) k, l .state);
-    })
+    rw (e, l .size) (ready-again (ready-begun (file-short o q (f .short)) (f .taken) refl) (fileUpTo (header o) (block o) k) (l .state))
 
 -- ---- load
 

@@ -17,7 +17,7 @@ use Rattle.machine.specs.Bare.{modeRules, bareRules, jobOf, ranBare, run
 use Rattle.machine.specs.Code.{Ready}
 use Rattle.machine.specs.Machine.{State, begun, trace, answerOr}
 use Rattle.machine.specs.Memory.{applied}
-use Rattle.machine.proofs.Runs.{begun-reached}
+use Rattle.machine.proofs.TurnLaws.{ready-begun}
 
 -- ---- rules one list after another
 
@@ -39,13 +39,10 @@ module _ (file map table : List ℕ) (mode : ℕ) where
   bare-ready memory e b =
       let h = zero-all-hold (bareRules file map table mode memory) tt e in
       let m = h .1 .1 in
-      record {
-        short = ltb-false _ _ (h .1 .0);
-        taken =
-            all-hold-zero (mapRules map memory)
-            (m .0, (m .1 .0, (m .1 .1 .0, (m .1 .1 .1 .0, (m .1 .1 .1 .1 .0, (m .1 .1 .1 .1 .1 .0, tt))))));
-        reached = rw b (begun-reached (jobOf (length file) map table mode));
-      }
+      ready-begun (ltb-false _ _ (h .1 .0))
+      (all-hold-zero (mapRules map memory)
+      (m .0, (m .1 .0, (m .1 .1 .0, (m .1 .1 .1 .0, (m .1 .1 .1 .1 .0, (m .1 .1 .1 .1 .1 .0, tt)))))))
+      b
 
   module _ (memory held : List ℕ) where
     abbrev code : ℕ

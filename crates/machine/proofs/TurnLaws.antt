@@ -9,13 +9,13 @@ use lib.Dec.{eqb, lit≤}
 use lib.ListN.{length, take, drop, length-append, length-take, length-drop, take-append-drop, drop-of-length-le}
 use lib.Seq.{take-all, drop-drop}
 use Rattle.octets.specs.Parts.{put}
-use Rattle.answers.specs.Rules.{pick}
-use Rattle.board.specs.Map.{Region, regions, uncovered, ram, limit}
+use Rattle.answers.specs.Rules.{pick, firstBroken}
+use Rattle.board.specs.Map.{Region, regions, uncovered, ram, limit, mapRules}
 use Rattle.board.proofs.MapLaws.{map-means, ordered-holds}
 use Rattle.machine.specs.Bare.{jobOf}
 use Rattle.machine.specs.Code.{stateOf, over, keptAll, wanted, reads, landed, Done, Used, Lent, Ready, Roomy, Gathered, isStopped}
 use Rattle.machine.specs.Commands.{commandOf, dataLength, judgedBytes, wrongLength}
-use Rattle.machine.specs.Machine.{Job, State, Turn, still, run, trace, gathered, withStored}
+use Rattle.machine.specs.Machine.{Job, State, Turn, begun, still, run, trace, gathered, withStored}
 use Rattle.machine.specs.Memory.{applied}
 use Rattle.machine.specs.declared.Command.{Command}
 use Rattle.machine.specs.declared.Control.{Control}
@@ -25,10 +25,16 @@ use Rattle.machine.proofs.CodeLaws.{judged-few, done-still, done-same, 
 use Rattle.machine.proofs.MemoryLaws.{applied-append}
 use Rattle.machine.proofs.Pieces.{Keeps, over-kept, over-storing, over-skipping}
 use Rattle.machine.proofs.ReachedLaws.{reached-stands, reached-stored}
-use Rattle.machine.proofs.Runs.{run-append, trace-append, run-stopped, trace-stopped, piece-reached}
+use Rattle.machine.proofs.Runs.{begun-reached, run-append, trace-append, run-stopped, trace-stopped, piece-reached}
 use Rattle.machine.proofs.Standing.{Stands, Meant, header-kept, judged-in-data, pick-cases}
 
 -- ---- what the calls that take a piece are given
+
+-- begin gives it, where the map is taken
+pub ready-begun : {size : ℕ} {map table : List ℕ} {mode memory : ℕ} {s : State} → size ≤ 2 ^ 30 → firstBroken (mapRules map memory) ≡ 0
+    → s ≡ begun (jobOf size map table mode) → Ready size map table mode memory s
+ready-begun {size} {map} {table} {mode} short taken b =
+    record { short = short; taken = taken; reached = rw b (begun-reached (jobOf size map table mode)) }
 
 module _ {size : ℕ} {map table : List ℕ} {mode memory : ℕ} {s : State} (r : Ready size map table mode memory s) where
   pub ready-lent : Lent map memory
@@ -51,7 +57,7 @@ module _ {size : ℕ} {map table : List ℕ} {mode memory : ℕ} {s : State} (r 
         stored = rw e (omega (arith, few, st .inside, r .short));
       }
 
-  -- what a turn leaves is given to the next
+  -- each piece keeps it
   pub ready-again : (xs : List ℕ) {t : State} → t ≡ run (jobOf size map table mode) s xs → Ready size map table mode memory t
   ready-again xs e =
       record { short = r .short; taken = r .taken; reached = rw e (piece-reached (jobOf size map table mode) s xs (r .reached)) }
