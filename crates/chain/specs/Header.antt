@@ -50,6 +50,14 @@ headerBytes d =
     ++ littleBytes 2 (d .headerSize) ++ littleBytes 2 (d .hashsumLength) ++ idBytes (d .ids) ++ littleBytes 2 (d .scheme)
     ++ littleBytes 2 0 ++ littleBytes 4 (d .padding) ++ d .root
 
+-- the magic at the start of each signed header
+abbrev pub headerMagic : ℕ
+headerMagic = 0xe6019598
+
+-- header size = 36 + hashsum length
+abbrev pub headerSizeFor : ℕ → ℕ
+headerSizeFor sum = 36 + sum
+
 -- block data length = block size - hashsum length
 abbrev pub dataLength : Header → ℕ
 dataLength d = d .blockSize - d .hashsumLength
@@ -73,10 +81,10 @@ countRules d =
 -- 5 to 11, of an approved header of `size` bytes
 abbrev pub fieldRules : Header → ℕ → ℕ → List Rule
 fieldRules d size expected =
-    rule 5 (not (eqb (d .magic) 0xe6019598))
+    rule 5 (not (eqb (d .magic) headerMagic))
     ∷ idRules (d .ids)
     ++ rule 7 (not (eqb (d .hashsumLength) (sumLength (d .ids))))
-    ∷ rule 8 (not (eqb (d .headerSize) (36 + d .hashsumLength)))
+    ∷ rule 8 (not (eqb (d .headerSize) (headerSizeFor (d .hashsumLength))))
     ∷ rule 8 (not (eqb (d .headerSize) size))
     ∷ rule 9 (not (eqb (d .scheme) 1))
     ∷ rule 10 (not (eqb (d .signature) expected))

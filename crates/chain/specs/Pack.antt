@@ -7,7 +7,7 @@ use lib.ListN.{length, replicate}
 use Rattle.octets.specs.Parts.{part}
 use Rattle.answers.specs.Rules.{pick, Rule, rule, firstBroken, signatureRules, sizeRules}
 use Rattle.chain.specs.Hashsum.{hashsum, sumLength, idRules}
-use Rattle.chain.specs.Header.{Header, headerBytes, blockSizeRules}
+use Rattle.chain.specs.Header.{Header, headerMagic, headerSizeFor, headerBytes, blockSizeRules}
 
 -- what is packed, and how: the file, the four hash IDs, block size and signature length
 pub record Order : Type 0 where
@@ -24,11 +24,13 @@ room p = p .blockSize - sumLength (p .ids)
 abbrev pub blocks : Order → ℕ
 blocks p = (length (p .file) + room p - 1) / room p
 
+-- what is left of their data
 abbrev pub padding : Order → ℕ
 padding p = blocks p * room p - length (p .file)
 
+-- header, signature field, blocks
 abbrev pub imageLength : Order → ℕ
-imageLength p = 36 + sumLength (p .ids) + p .signature + blocks p * p .blockSize
+imageLength p = headerSizeFor (sumLength (p .ids)) + p .signature + blocks p * p .blockSize
 
 -- pack checks 6, then block size (11), 28, then 1 (signature length, image over 2^30), then 29
 abbrev pub packRules : Order → ℕ → List Rule
@@ -55,14 +57,15 @@ unfoldable pub blocksFrom : Order → ℕ → ℕ → List ℕ
 blocksFrom p zero k = []
 blocksFrom p (suc j) k = link p j (suc k) ++ chunk p k ++ blocksFrom p j (suc k)
 
+-- the fields of the image's header; the root hash is the first block's hashsum
 abbrev pub packedHeader : Order → Header
 packedHeader p =
     record {
-      magic = 0xe6019598;
+      magic = headerMagic;
       count = blocks p;
       blockSize = p .blockSize;
       signature = p .signature;
-      headerSize = 36 + sumLength (p .ids);
+      headerSize = headerSizeFor (sumLength (p .ids));
       hashsumLength = sumLength (p .ids);
       ids = p .ids;
       scheme = 1;
@@ -70,6 +73,7 @@ packedHeader p =
       root = link p (blocks p) 0;
     }
 
+-- header, a signature field of zeros, blocks
 unfoldable pub image : Order → List ℕ
 image p = headerBytes (packedHeader p) ++ replicate (p .signature) 0 ++ blocksFrom p (blocks p) 0
 
@@ -78,6 +82,7 @@ pub record Packed : Type 0 where
   pub code : ℕ
   pub output : List ℕ
 
+-- the image where no rule is broken; on a refusal the output is as it was
 unfoldable pub packed : Order → List ℕ → Packed
 packed p output =
     let code = firstBroken (packRules p (length output)) in

@@ -28,7 +28,7 @@ jobOf fileLength map table mode = record { unit = boardOf map table mode; fileLe
 abbrev pub ranBare : Job → List ℕ → State
 ranBare job file = run job (begun job) file
 
--- what a bare run returns, and leaves in the answer record `held` and in memory
+-- what a bare run returns, and leaves in the answer record `held` and in memory; the whole file always stops the machine
 unfoldable pub runBare : List ℕ → List ℕ → List ℕ → ℕ → List ℕ → List ℕ → Outcome
 runBare file map table mode memory held =
     let code = firstBroken (bareRules file map table mode (length memory)) in

@@ -22,7 +22,7 @@ pub struct Count {
 }
 
 // All cuts of the file, where the whole run left this answer and memory.
-pub fn all(file: &[u8], answer: &[u8], memory: &[u8]) -> Count {
+pub(crate) fn all(file: &[u8], answer: &[u8], memory: &[u8]) -> Count {
     let none = Count { tried: 0, agree: 0 };
     let mut count = none.with(agrees(file, Cut::Bytes, answer, memory));
     for first in 0..=file.len() {

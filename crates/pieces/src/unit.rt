@@ -3,7 +3,7 @@
 pub const MODE: u64 = 64;
 
 // 16 bytes at 0x1000, 16 at 0x1010, which touch, and 16 at 0x3000.
-pub fn map() -> [u8; 48] {
+pub(crate) fn map() -> [u8; 48] {
     let mut m = [0u8; 48];
     m[1] = 0x10;
     m[8] = 16;
@@ -16,7 +16,7 @@ pub fn map() -> [u8; 48] {
 }
 
 // EAX 0, ECX 0 gives 1, 2, 3, 4; EAX 7, ECX 1 gives 5, 6, 0xf0, 8.
-pub fn table() -> [u8; 48] {
+pub(crate) fn table() -> [u8; 48] {
     let mut t = [0u8; 48];
     t[8] = 1;
     t[12] = 2;
@@ -32,6 +32,6 @@ pub fn table() -> [u8; 48] {
 }
 
 // Memory before a run.
-pub fn fresh() -> [u8; 48] {
+pub(crate) fn fresh() -> [u8; 48] {
     [0xee; 48]
 }
