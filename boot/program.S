@@ -71,7 +71,8 @@ window: mov     $END_WINDOW, %ebx
 memory: mov     $END_MEMORY, %ebx
         mov     $AT(elsewhere), SI
 
-end:    mov     $LINE_STATUS, %edx
+end:    cld                             # its flag may be what was wrong
+        mov     $LINE_STATUS, %edx
         in      %dx, %al
         test    $0x20, %al
         jz      end

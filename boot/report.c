@@ -24,7 +24,7 @@ void say_handed(const struct handed *handed, struct slice header)
 
 static void say_left_out(const struct regions *regions, struct slice image)
 {
-    say("left out: page 0; the stub, ");
+    say("left out: page 0 and parts of pages; the stub, ");
     say_range(address(stub_begin), address(stub_end));
     say("; the pages of the image, ");
     say_range(address(image.at), address(image.at + image.length));
