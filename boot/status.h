@@ -8,7 +8,7 @@
 
 #define EXIT_PORT 0xf4
 
-/* 1 to 29: the code of a refusal by the loader. The statuses are 3 to 59. */
+/* 1 to 27: the code of a refusal by the loader. The statuses are 3 to 55. */
 
 /* Said by the loaded program. */
 #define END_ENTERED 40   /* 81: all in order */
