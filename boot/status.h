@@ -1,7 +1,7 @@
 /*
  * How a boot ends, by the emulator's debug-exit device: a number n written to it ends the emulator with status
- * 2n + 1. No status is 0, which a triple fault gives, and all are below 124, which `timeout` gives. Read by C,
- * by assembly and by the tests.
+ * 2n + 1. No status is 0, which a triple fault gives, and all are below 124, which `timeout` gives. Read by C and
+ * by assembly.
  */
 #ifndef STATUS_H
 #define STATUS_H

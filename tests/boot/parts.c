@@ -148,7 +148,8 @@ static void try_pvh(void)
     static const uint64_t module[4] = { 0x900000, 0x1234, 0, 0 };
     static const uint64_t ranges[129][3] = { { 0, 0x9fc00, 1 }, { 0xf0000, 0x10000, 2 } };
     static uint64_t many[129][3];
-    uint64_t info[7] = { 0x336ec578 | 1ull << 32, 1ull << 32, (uintptr_t)module, (uintptr_t)line, 0, (uintptr_t)ranges, 2 };
+    uint64_t info[7] = { 0x336ec578 | 1ull << 32, 1ull << 32, (uintptr_t)module, (uintptr_t)line, 0,
+                         (uintptr_t)ranges, 2 };
     uint64_t at = (uint64_t)(uintptr_t)info;
 
     is_taken("PVH", &handed, take_handed(0, at, &handed));
