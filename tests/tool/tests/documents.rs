@@ -28,7 +28,11 @@ fn every_code_is_in_each_table_of_answers() {
         rows("docs/FORMAT.md", "\n## Answers\n", ["| ", " |"]),
         codes
     );
-    let page = rows("docs/runnelpin.1", "\n.SH ANSWERS\n", ["\\fB", "\\fR\t"]);
+    let page = rows(
+        "docs/runnelpin.1",
+        "\n.SH ANSWERS\n",
+        [".IP \\fB", "\\fR 5"],
+    );
     assert_eq!(
         page,
         codes[..29],
