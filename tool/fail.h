@@ -4,7 +4,10 @@
 
 enum status { STATUS_DONE = 0, STATUS_REFUSED = 1, STATUS_BAD = 2 };
 
-/* Says in one line on standard error what is wrong with the usage or with a file, and ends with STATUS_BAD. */
+/* One line on standard error, whatever characters a file's name has: those that don't print are a question mark. */
+void complain(const char *format, ...) __attribute__((format(printf, 1, 2)));
+
+/* Complains of the usage or of a file, and ends the tool with STATUS_BAD. */
 void fail(const char *format, ...) __attribute__((format(printf, 1, 2), noreturn));
 
 #endif

@@ -66,6 +66,6 @@ int finish(struct report *r)
     if (fflush(stdout) || ferror(stdout))
         fail("standard output can't be written: %s", strerror(errno));
     if (is_refused && (is_json || !is_one_place()))
-        fprintf(stderr, "runnelpin: %s: %s\n", r->request->operand, r->words.at);
+        complain("%s: %s", r->request->operand, r->words.at);
     return is_refused ? STATUS_REFUSED : STATUS_DONE;
 }

@@ -51,9 +51,27 @@ static void list_header(struct bytes header)
     close_part('}');
 }
 
+/* Of the blocks from first to last, where there are any. */
+static void say_blocks(struct text *text, uint64_t first, uint64_t last, const char *what)
+{
+    if (first > last)
+        return;
+    say(text, "%s%" PRIu64, text->length ? ", " : "", first);
+    if (first < last)
+        say(text, " to %" PRIu64, last);
+    say(text, " %s", what);
+}
+
 static void list_blocks(const struct survey *s)
 {
+    struct text each = {NULL, 0};
+    uint64_t looked_at = s->proved + (s->stop.code != 0);
+    say_blocks(&each, 1, s->proved, "proved");
+    say_blocks(&each, s->proved + 1, looked_at, "refused");
+    say_blocks(&each, looked_at + 1, s->whole, "not proved");
+    say_blocks(&each, s->whole + 1, s->blocks, "cut off");
     open_part("blocks", '{');
+    list_text("each", &each);
     list_number("counted", s->blocks);
     list_number("whole", s->whole);
     list_number("proved", s->proved);

@@ -178,6 +178,16 @@ fn missing_files_and_directories() {
     }
 }
 
+/// One line also where a name has several.
+#[test]
+fn names_that_dont_print() {
+    let desk = sample::desk();
+    let line = "runnelpin pack \"$(printf 'no\\nfile\\033[31m')\" -o out";
+    one_line(&desk.shell(line), USAGE, ": no?file?[31m: can't be read: ");
+    let line = "cp map \"$(printf 'a\\nb')\"; runnelpin show \"$(printf 'a\\nb')\"";
+    one_line(&desk.shell(line), REFUSED, ": a?b: refused: 16, ");
+}
+
 #[test]
 fn empty_files() {
     let desk = sample::desk();

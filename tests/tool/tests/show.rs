@@ -33,6 +33,7 @@ fn a_sound_image() {
     let blocks = (image.len() - HEADER - SIGNATURE) / BLOCK;
     let expected = [blocks, BLOCK, SIGNATURE, HEADER].map(|n| n as u64);
     assert_eq!(numbers(header, keys), expected);
+    assert_eq!(json["blocks"]["each"].text(), "1 to 4 proved");
     assert_eq!(header["hash_1"].text(), "sha256");
     assert_eq!(header["hash_2"].text(), "none");
     let root: String = image[36..68].iter().map(|b| format!("{b:02x}")).collect();
@@ -134,6 +135,13 @@ fn every_byte_changed() {
             let keys = ["proved", "refused_block", "refused_with", "file_proved"];
             let expected = [block as u64, block as u64 + 1, 13, known];
             assert_eq!(numbers(&json["blocks"], keys), expected, "byte {at}");
+            let each = match block {
+                0 => "1 refused, 2 to 4 not proved",
+                1 => "1 proved, 2 refused, 3 to 4 not proved",
+                2 => "1 to 2 proved, 3 refused, 4 not proved",
+                _ => "1 to 3 proved, 4 refused",
+            };
+            assert_eq!(json["blocks"]["each"].text(), each, "byte {at}");
             assert_eq!(numbers(&json, ["code", "place"]), [13, block as u64 + 1]);
         } else if !is_free {
             let code = json["code"].number();
@@ -191,6 +199,8 @@ fn cut_and_changed() {
         let keys = ["whole", "proved", "refused_block", "refused_with"];
         let block = block as u64;
         assert_eq!(numbers(&json["blocks"], keys), [3, block - 1, block, 13]);
+        let each = json["blocks"]["each"].text();
+        assert!(each.ends_with(", 4 cut off"), "{each}");
         assert_eq!(json["code"].number(), 12);
     }
 }

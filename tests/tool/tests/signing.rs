@@ -1,5 +1,6 @@
 //! Signed for real: by GnuPG with a key made for the test, approved by gpgv, and loaded.
 
+use std::fs;
 use std::path::Path;
 use std::process::Command;
 use tool::desk::{repository, tool, Desk, Said};
@@ -130,4 +131,14 @@ fn bad_usage_of_the_scripts() {
     assert!(said.status != 0 && !desk.has("signed"), "{said:?}");
     let said = script(&desk, "approve", &["nothing", "image", "approved"]);
     assert!(said.status != 0 && !desk.has("approved"), "{said:?}");
+}
+
+#[test]
+fn a_folder_is_no_place_for_a_header() {
+    let desk = signed();
+    fs::create_dir(desk.path("folder")).unwrap();
+    let before = desk.names();
+    assert_ne!(approve(&desk, "signed", "folder").status, 0);
+    assert_eq!(desk.names(), before);
+    assert!(fs::read_dir(desk.path("folder")).unwrap().next().is_none());
 }
