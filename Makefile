@@ -31,7 +31,7 @@ build/runnelpin: $(TOOL_PARTS)
 build/runnelpin-watched: $(TOOL_PARTS)
 	@$(TOOL) -O1 -g -fsanitize=address,undefined -fno-sanitize-recover=all
 
-stub: archives ## the example boot stub, built and run, and the stack that each call needs
+stub: tool ## the example boot stub, built and run, and the stack that each call needs
 	@tools/stub && tools/stack
 
 boot: tool ## a machine in an emulator, booted by the proved loader from a signed image

@@ -1,4 +1,4 @@
-/* The sample unit: where its RAM is, and what its image leaves there. Read by C and by assembly. */
+/* The sample unit: where its RAM is, and what its image leaves there. Read by C, assembly and shell. */
 #ifndef UNIT_H
 #define UNIT_H
 
@@ -17,7 +17,6 @@
 #define FILL_COUNT 0x1800 /* filled at the end of the high region, with FILL_PATTERN */
 #define FILL_PATTERN 0x5a
 
-#define BLOCK_SIZE 256
 #define SIGNATURE_LENGTH 512
 
 /* How the program ends: 1 to 29 is the code of a refusal. */
