@@ -34,7 +34,9 @@ static void say_map(struct text *text, const struct call *c)
 {
     say(text, "; ");
     uint64_t total = map_total(c->board.map, text);
-    if (total)
+    if (total && c->board.memory.length > MOST_MEMORY) /* read no further */
+        say(text, "memory has over 2^32 bytes, the regions %" PRIu64, total);
+    else if (total)
         say(text, "memory has %zu bytes, the regions %" PRIu64, c->board.memory.length, total);
 }
 

@@ -6,7 +6,6 @@
 enum { REGION_BYTES = 16, MOST_REGIONS = 16, RECORD_BYTES = 24, MOST_RECORDS = 64 };
 
 #define HIGHEST_END ((uint64_t)1 << 52)
-#define MOST_MEMORY ((uint64_t)1 << 32)
 
 /* What is wrong with a region behind one that ends at `end`; NULL where nothing is. */
 static const char *region_fault(uint64_t base, uint64_t length, uint64_t end)

@@ -4,6 +4,8 @@
 
 #include "text.h"
 
+#define MOST_MEMORY ((uint64_t)1 << 32)
+
 struct board {
     struct bytes map, table, memory;
     uint64_t mode;

@@ -9,8 +9,6 @@
 #include <inttypes.h>
 #include <string.h>
 
-#define MOST_MEMORY ((uint64_t)1 << 32)
-
 /* Memory has the bytes that are given, else as many zeros as the map's regions have bytes. */
 static void take_board(struct report *r)
 {

@@ -162,14 +162,14 @@ int job_show(const struct request *request)
     struct report r = new_report(request);
     r.call.image = read_file(request->operand, LARGEST);
     begin_listing(request->value[OPTION_JSON] != NULL);
-    if (is_image(r.call.image)) {
+    if (r.call.image.length > LARGEST) { /* and none of it was read */
+        r.call.answer.code = RUNNELPIN_ARGUMENT;
+    } else if (is_image(r.call.image)) {
         list_kind("image", r.call.image);
         show_image(&r);
     } else {
         struct stream file = stream_of_file(r.call.image);
         list_kind("command file", r.call.image);
-        if (r.call.image.length > LARGEST)
-            r.call.answer.code = RUNNELPIN_ARGUMENT;
         list_commands(&r, &file);
         if (r.call.answer.code == RUNNELPIN_FILE_MAGIC)
             say(note(&r), "nor is it an image, which begins with 98 95 01 e6");

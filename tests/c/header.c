@@ -152,18 +152,24 @@ static void test_signature(void)
     expect("signature: expected length", WITH(signature_start, signature_length, SIGNATURE + 1), 0);
 }
 
+/* The parameters that open and load share. */
+static void test_image(const char *what, uint64_t (*call)(struct lent))
+{
+    expect(what, WITH(call, image, image + 1), RUNNELPIN_APPROVED);
+    expect(what, WITH(call, image_length, IMAGE - 1), RUNNELPIN_IMAGE_LENGTH);
+    expect(what, WITH(call, header, header + 1), RUNNELPIN_APPROVED);
+    expect(what, WITH(call, header_length, HEADER - 1), RUNNELPIN_HEADER_SIZE);
+    expect(what, WITH(call, signature_length, SIGNATURE + 1), RUNNELPIN_SIGNATURE_LENGTH);
+    expect(what, WITH(call, signature_length, WIDE + SIGNATURE), RUNNELPIN_ARGUMENT);
+}
+
 static void test_open(void)
 {
     expect("open", open_image(sound()), RUNNELPIN_DONE);
     expect_answer("open: answer", RUNNELPIN_DONE, 0, 0, FILE_BYTES, 0);
     expect("open: output", (uint64_t)memcmp(output, sample_file, FILE_BYTES), 0);
 
-    expect("open: image", WITH(open_image, image, image + 1), RUNNELPIN_APPROVED);
-    expect("open: image length", WITH(open_image, image_length, IMAGE - 1), RUNNELPIN_IMAGE_LENGTH);
-    expect("open: header", WITH(open_image, header, header + 1), RUNNELPIN_APPROVED);
-    expect("open: header length", WITH(open_image, header_length, HEADER - 1), RUNNELPIN_HEADER_SIZE);
-    expect("open: signature length", WITH(open_image, signature_length, SIGNATURE + 1), RUNNELPIN_SIGNATURE_LENGTH);
-    expect("open: wide signature length", WITH(open_image, signature_length, WIDE + SIGNATURE), RUNNELPIN_ARGUMENT);
+    test_image("open", open_image);
     expect("open: output length", WITH(open_image, output_length, FILE_BYTES - 1), RUNNELPIN_OUTPUT_LENGTH);
     expect_answer("open: refusal", RUNNELPIN_OUTPUT_LENGTH, 0, 0, 0, 0);
     expect("open: answer length", WITH(open_image, answer_length, 39), RUNNELPIN_ARGUMENT);
@@ -207,12 +213,7 @@ static void test_run(void)
 static void test_load(void)
 {
     test_board("load", load);
-    expect("load: image", WITH(load, image, image + 1), RUNNELPIN_APPROVED);
-    expect("load: image length", WITH(load, image_length, IMAGE - 1), RUNNELPIN_IMAGE_LENGTH);
-    expect("load: header", WITH(load, header, header + 1), RUNNELPIN_APPROVED);
-    expect("load: header length", WITH(load, header_length, HEADER - 1), RUNNELPIN_HEADER_SIZE);
-    expect("load: signature length", WITH(load, signature_length, SIGNATURE + 1), RUNNELPIN_SIGNATURE_LENGTH);
-    expect("load: wide signature length", WITH(load, signature_length, WIDE + SIGNATURE), RUNNELPIN_ARGUMENT);
+    test_image("load", load);
 
     image[IMAGE - 1] ^= 1;
     expect("load: last block", load(sound()), RUNNELPIN_BLOCK_HASHSUM);

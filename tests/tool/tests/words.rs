@@ -68,6 +68,14 @@ fn arguments(met: &mut BTreeSet<u64>) {
     ] {
         refused(&desk, met, words, &parts);
     }
+    let said = desk.run("show large --json");
+    assert!(said.json().get("kind").is_none(), "not looked at: {said:?}");
+    large.set_len((1 << 32) + 5).unwrap();
+    let parts = [
+        "refused: 2, ",
+        "; memory has over 2^32 bytes, the regions 12288",
+    ];
+    refused(&desk, met, "run file --map map --memory large", &parts);
     for (map, part) in [
         ("", "it has 0 regions, where 1 to 16 are allowed"),
         ("0 1\n", "memory has 3 bytes, the regions 1"),
