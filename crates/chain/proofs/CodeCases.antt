@@ -17,9 +17,9 @@ use Rattle.hashes.specs.Padding as messages
 use Rattle.hashes.specs.Tables as tables
 use Rattle.chain.specs.Blocks.{blockCode, blockOf, proved}
 use Rattle.chain.specs.Hashsum.{hashsum, sumLength, anyUnknown}
-use Rattle.chain.specs.Header.{Header, headerOf, headerBytes, idBytes}
+use Rattle.chain.specs.Header.{Header, headerMagic, headerOf, headerBytes, idBytes}
 use Rattle.chain.specs.Open.{openRules, opened}
-use Rattle.chain.specs.Pack.{Order, blocks, padding, packRules, packedHeader, packed}
+use Rattle.chain.specs.Pack.{Order, packRules, packed}
 use Rattle.chain.proofs.BlockLaws.{Turn, went, stopped, turn}
 use Rattle.chain.proofs.OpenLaws.{outcome, opened-is, Way, unwritten, refusing, proving, way}
 
@@ -112,7 +112,7 @@ all-quick (x ∷ xs) = ap₂ (λ (c : ℕ) (cs : List ℕ). c ∷ cs) (quick x) 
 abbrev sealed : ℕ → List ℕ → Header
 sealed padded root =
     record {
-      magic = 0xe6019598;
+      magic = headerMagic;
       count = 1;
       blockSize = 34;
       signature = 1;
@@ -230,27 +230,3 @@ ruled-cases = refl
 
 pub pack-cases : map packCode packCases ≡ 0 ∷ 1 ∷ 6 ∷ 11 ∷ 28 ∷ 29 ∷ []
 pack-cases = all-by-rules packCases ∙ ruled-cases
-
--- ---- the cases of document 01, "On both sides of each line", that packing decides
-
-abbrev orderBy : List ℕ → ℕ → ℕ → Order
-orderBy ids blockSize file = record { file = replicate file 0; ids = ids; blockSize = blockSize; signature = 1 }
-
-abbrev pub documentOrders : List Order
-documentOrders =
-    -- SHA2-256 alone, blocks of 96: files of 61, 64 and 65 bytes
-    orderBy (2 ∷ 0 ∷ 0 ∷ 0 ∷ []) 96 61
-    ∷ orderBy (2 ∷ 0 ∷ 0 ∷ 0 ∷ []) 96 64
-    ∷ orderBy (2 ∷ 0 ∷ 0 ∷ 0 ∷ []) 96 65
-    -- four SHA2-512
-    ∷ orderBy (4 ∷ 4 ∷ 4 ∷ 4 ∷ []) 257 1
-    ∷ []
-
--- header size, blocks and padding
-abbrev pub sizesOf : Order → List ℕ
-sizesOf p = packedHeader p .headerSize ∷ blocks p ∷ padding p ∷ []
-
-pub document-sizes : map sizesOf documentOrders
-    ≡ (68 ∷ 1 ∷ 3 ∷ []) ∷ (68 ∷ 1 ∷ 0 ∷ []) ∷ (68 ∷ 2 ∷ 63 ∷ []) ∷ (292 ∷ 1 ∷ 0 ∷ []) ∷ []
-unfolding sumLength digests.digestLength digests.algorithms digests.algorithmOf
-document-sizes = refl

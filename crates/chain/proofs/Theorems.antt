@@ -13,11 +13,11 @@ use Rattle.answers.specs.Answers.{Outcome}
 use Rattle.answers.specs.declared.Answer.{Answer}
 use Rattle.chain.specs.Blocks.{blockOf, proved, fileUpTo}
 use Rattle.chain.specs.Hashsum.{sumLength}
-use Rattle.chain.specs.Header.{Header, headerOf}
+use Rattle.chain.specs.Header.{Header, headerOf, headerSizeFor}
 use Rattle.chain.specs.Open.{opened, signatureField}
 use Rattle.chain.specs.Pack.{Order, Packed, packRules, packed}
 use Rattle.chain.proofs.BlockLaws.{proved-le, file-agrees, file-begins}
-use Rattle.chain.proofs.CodeCases.{openCode, openCases, open-cases, packCode, packCases, pack-cases, sizesOf, documentOrders, document-sizes}
+use Rattle.chain.proofs.CodeCases.{openCode, openCases, open-cases, packCode, packCases, pack-cases}
 use Rattle.chain.proofs.GivenCodes.{among, code-passes, open-code, unchanged, first-part, packed-unchanged, packed-image, packed-passes-rules, Tells, told}
 use Rattle.chain.proofs.OpenLaws.{ButSignature, given, doneAnswer, opened-same}
 use Rattle.chain.proofs.OpenedPacks.{cleared, packed-opened}
@@ -30,17 +30,17 @@ use Rattle.chain.proofs.StreamLaws.{Collision, streams}
 -- header approved and whatever the signature field then holds, open answers 0, bytes stored is the file's length, and
 -- the output is the file.
 pub open-of-pack : (p : Order) (blank : List ℕ) → length (p .ids) ≡ 4 → packed p blank .code ≡ 0
-    → (image′ : List ℕ) → ButSignature (36 + sumLength (p .ids)) (p .signature) (packed p blank .output) image′
+    → (image′ : List ℕ) → ButSignature (headerSizeFor (sumLength (p .ids))) (p .signature) (packed p blank .output) image′
     → (output held : List ℕ) → length output ≡ length (p .file) → length held ≡ 40
-    → opened image′ (take (36 + sumLength (p .ids)) (packed p blank .output)) (p .signature) output held
+    → opened image′ (take (headerSizeFor (sumLength (p .ids))) (packed p blank .output)) (p .signature) output held
     ≡ given (doneAnswer (length (p .file))) (p .file)
 open-of-pack p blank four e image′ but output held l h =
     let ok = packable p (length blank) (packed-passes-rules p blank e) .0 in
     let made = packed-image p blank e in
     ap (λ (x : List ℕ). opened image′ x (p .signature) output held)
-    (ap (λ (x : List ℕ). take (36 + sumLength (p .ids)) x) made ∙ header-first p ok four)
+    (ap (λ (x : List ℕ). take (headerSizeFor (sumLength (p .ids))) x) made ∙ header-first p ok four)
     ∙ opened-packed p ok four image′
-    (subst (λ (x : List ℕ). ButSignature (36 + sumLength (p .ids)) (p .signature) x image′) made but) output held l h
+    (subst (λ (x : List ℕ). ButSignature (headerSizeFor (sumLength (p .ids))) (p .signature) x image′) made but) output held l h
 
 -- 2. Packing the file of any image that opens, with its IDs and sizes, answers 0 and gives that image again but for
 -- the signature and reserved fields, which are zero.
@@ -144,17 +144,17 @@ begins-or-collide d block block′ n n′ h =
 
 -- 7. Two results that the promise of a call allows are equal: open
 pub open-determined : (image approved : List ℕ) (signature : ℕ) (output held : List ℕ) (x y : Outcome)
-    → x ≡ opened image approved signature output held → y ≡ opened image approved signature output held
+    → opened image approved signature output held ≡ x → opened image approved signature output held ≡ y
     → (x .code ≡ y .code) × (x .answer ≡ y .answer) × (x .lent ≡ y .lent)
 open-determined image approved signature output held x y p q =
-    let e : x ≡ y = p ∙ sym q in
+    let e : x ≡ y = sym p ∙ q in
     (ap (λ (o : Outcome). o .code) e, ap (λ (o : Outcome). o .answer) e, ap (λ (o : Outcome). o .lent) e)
 
 -- and pack.
-pub pack-determined : (p : Order) (output : List ℕ) (x y : Packed) → x ≡ packed p output → y ≡ packed p output
+pub pack-determined : (p : Order) (output : List ℕ) (x y : Packed) → packed p output ≡ x → packed p output ≡ y
     → (x .code ≡ y .code) × (x .output ≡ y .output)
 pack-determined p output x y e f =
-    let g : x ≡ y = e ∙ sym f in
+    let g : x ≡ y = sym e ∙ f in
     (ap (λ (o : Packed). o .code) g, ap (λ (o : Packed). o .output) g)
 
 -- 8. The signature field of an image as a part of it: where open would give 1 or 4 to 12 the part is empty;
@@ -175,8 +175,3 @@ signature-given = field-given
 pub open-tells : (image approved : List ℕ) (signature : ℕ) (output held : List ℕ) → length held ≡ 40
     → (a : Answer) × Tells image approved signature output held a
 open-tells = told
-
--- "On both sides of each line": header size, blocks and padding of the cases that packing decides
-pub document-cases : map sizesOf documentOrders
-    ≡ (68 ∷ 1 ∷ 3 ∷ []) ∷ (68 ∷ 1 ∷ 0 ∷ []) ∷ (68 ∷ 2 ∷ 63 ∷ []) ∷ (292 ∷ 1 ∷ 0 ∷ []) ∷ []
-document-cases = document-sizes

@@ -22,7 +22,7 @@ use Rattle.hashes.specs.Padding as messages
 use Rattle.hashes.specs.Tables as tables
 use Rattle.chain.specs.Blocks.{blockCode, fileUpTo}
 use Rattle.chain.specs.Hashsum.{hashsum, sumLength, anyUnknown}
-use Rattle.chain.specs.Header.{Header, headerBytes, idBytes, fileLength}
+use Rattle.chain.specs.Header.{Header, headerSizeFor, headerBytes, idBytes, fileLength}
 use Rattle.chain.specs.Pack.{Order, imageLength, packRules, packed}
 use Rattle.chain.proofs.BlockLaws.{proved-le}
 use Rattle.chain.proofs.CodeCases.{OpenCase, openCode, openCases, open-cases}
@@ -57,7 +57,7 @@ packedCase c =
     record {
       offer = record {
         image = image;
-        approved = take (36 + sumLength (orderOf c .ids)) image;
+        approved = take (headerSizeFor (sumLength (orderOf c .ids))) image;
         map = c .map;
         table = c .table;
         mode = c .mode;

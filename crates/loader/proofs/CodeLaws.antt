@@ -10,7 +10,7 @@ use native.Mathlib.Omega.{arith}
 use borrow.Author.Tests.{eq-eqb, ne-eqb}
 use lib.Dec.{eqb}
 use lib.ListN.{length}
-use Rattle.answers.specs.Answers.{Outcome, answered, refused, recordBytes}
+use Rattle.answers.specs.Answers.{refused, recordBytes}
 use Rattle.answers.specs.Rules.{pick, firstBroken}
 use Rattle.answers.specs.declared.Answer.{Answer}
 use Rattle.board.specs.Map.{regions}
@@ -156,27 +156,27 @@ module _ (o : Offer) (memory held : List ℕ) where
       }
 
   -- a record that isn't 40 bytes long
-  pub load-unheld : length held ≢ 40 → _≡_ {A = Outcome} (record { code = 1; answer = held; lent = memory }) (loaded o memory held)
+  pub load-unheld : length held ≢ 40 → loaded o memory held ≡ record { code = 1; answer = held; lent = memory }
   load-unheld n =
-      sym
-      (load-is o memory held
+      load-is o memory held
       ∙ ap (λ (b : Bool). pick b
       (record {
         code = answerMade o (length memory) .code;
         answer = recordBytes (answerMade o (length memory));
         lent = applied (regions (o .map)) memory (storesMade o (length memory));
       })
-      (record { code = 1; answer = held; lent = memory })) (ne-eqb (length held) 40 n))
+      (record { code = 1; answer = held; lent = memory })) (ne-eqb (length held) 40 n)
 
   module _ (fits : length held ≡ 40) (a : Answer) {r : ℕ} {h : List ℕ} (c : r ≡ a .code) (bytes : h ≡ recordBytes a) where
     returned : (m : List ℕ) → a ≡ answerMade o (length memory) → m ≡ applied (regions (o .map)) memory (storesMade o (length memory))
-        → _≡_ {A = Outcome} (record { code = r; answer = h; lent = m }) (loaded o memory held)
+        → loaded o memory held ≡ record { code = r; answer = h; lent = m }
     returned m e f =
-        (λ i. record { code = c i; answer = bytes i; lent = f i })
-        ∙ ap (λ (x : Answer). record { code = x .code; answer = recordBytes x; lent = applied (regions (o .map)) memory (storesMade o (length memory)) }) e
-        ∙ sym (load-answered o memory held fits)
+        load-answered o memory held fits
+        ∙ sym
+        ((λ i. record { code = c i; answer = bytes i; lent = f i })
+        ∙ ap (λ (x : Answer). record { code = x .code; answer = recordBytes x; lent = applied (regions (o .map)) memory (storesMade o (length memory)) }) e)
 
-    pub load-refuses : code ≢ 0 → a ≡ refused code → _≡_ {A = Outcome} (record { code = r; answer = h; lent = memory }) (loaded o memory held)
+    pub load-refuses : code ≢ 0 → a ≡ refused code → loaded o memory held ≡ record { code = r; answer = h; lent = memory }
     unfolding applied
     load-refuses n e =
         let f : eqb code 0 ≡ false = ne-eqb code 0 n in
@@ -184,7 +184,7 @@ module _ (o : Offer) (memory held : List ℕ) where
         (sym (ap (λ (b : Bool). applied (regions (o .map)) memory (pick b (stores o) [])) f))
 
     pub load-loads : code ≡ 0 → (m : List ℕ) → BlocksLoaded o memory a m
-        → _≡_ {A = Outcome} (record { code = r; answer = h; lent = m }) (loaded o memory held)
+        → loaded o memory held ≡ record { code = r; answer = h; lent = m }
     load-loads z m w =
         let f : eqb code 0 ≡ true = eq-eqb code 0 z in
         returned m (w .answered ∙ sym (ap (λ (b : Bool). pick b (loadAnswer o) (refused code)) f))

@@ -1,8 +1,8 @@
--- Document 01, "On both sides of each line": the cases that it marks to be proved, as one table.
+-- Document 01, "On both sides of each line": the cases that it marks to be proved, and the empty write, as one table.
 use mathlib.Core.Path.{_≡_, refl}
 use mathlib.Core.List.{List, [], _∷_, _++_, map}
 use Prim.Native.Nat.{ℕ, _-_, _^_}
-use lib.ListN.{length, replicate}
+use lib.ListN.{replicate}
 use Rattle.octets.specs.Numbers.{little, littleBytes}
 use Rattle.octets.specs.Parts.{part}
 use Rattle.answers.specs.Answers.{Outcome, recordBytes}
@@ -32,6 +32,7 @@ use Rattle.machine.specs.Machine.{
   trace,
 }
 use Rattle.machine.specs.Memory.{applied}
+use Rattle.machine.proofs.Cases.{magic, write, fill, entry, check, leaf}
 
 -- ---- what a case is
 
@@ -43,36 +44,16 @@ pub data Case : Type 0 where
   -- a file of so many bytes packed by these IDs in blocks of this size: the code, header size, blocks and padding
   packing : (ids : List ℕ) (blockSize file : ℕ) → Case
 
--- ---- command files
-
-abbrev command : ℕ → List ℕ → List ℕ
-command id bytes = littleBytes 2 id ++ replicate 6 0 ++ littleBytes 8 (length bytes) ++ bytes
-
-abbrev write : ℕ → List ℕ → List ℕ
-write a bytes = command 0 (littleBytes 8 a ++ bytes)
-
-abbrev fill : ℕ → ℕ → List ℕ
-fill a n = command 1 (littleBytes 8 a ++ littleBytes 8 n ++ replicate 8 0)
-
--- a check of register EAX of the table's one record
-abbrev check : ℕ → ℕ → List ℕ
-check value mask = command 3 (littleBytes 4 0 ++ littleBytes 4 1 ++ littleBytes 4 value ++ littleBytes 4 mask ++ replicate 72 0)
-
-abbrev fileOf : List ℕ → List ℕ
-fileOf commands = littleBytes 8 0x8adc5fa2448cb65e ++ commands ++ command 2 (littleBytes 8 0)
+-- ---- the unit
 
 -- M: 0x1000 length 0x1000; 0x100000 length 0x2000; memory 12,288 bytes
 abbrev M : List ℕ
 M = littleBytes 8 0x1000 ++ littleBytes 8 0x1000 ++ littleBytes 8 0x100000 ++ littleBytes 8 0x2000
 
--- one record, of inputs EAX 1, ECX 0: EAX 0xF0
-abbrev table : List ℕ
-table = littleBytes 4 1 ++ littleBytes 4 0 ++ littleBytes 4 0xF0 ++ replicate 12 0
-
 -- ---- what the definitions say of a case
 
 abbrev ran : ℕ → List ℕ → Outcome
-ran mode commands = runBare (fileOf commands) M table mode (replicate 12288 0) (replicate 40 0)
+ran mode commands = runBare (magic ++ commands ++ entry 0) M leaf mode (replicate 12288 0) (replicate 40 0)
 
 abbrev orderOf : List ℕ → ℕ → ℕ → Order
 orderOf ids blockSize file = record { file = replicate file 0; ids = ids; blockSize = blockSize; signature = 1 }
@@ -118,8 +99,11 @@ lines =
     -- mode 64: a fill of 2 at 2^64 - 1 gives 20
     ∷ line (coded 64 (fill (2 ^ 64 - 1) 2)) (20 ∷ [])
     -- register 0xF0, mask 0x30: value 0x30 passes; value 0xF0 gives 26
-    ∷ line (coded 64 (check 0x30 0x30)) (0 ∷ [])
-    ∷ line (coded 64 (check 0xF0 0x30)) (26 ∷ [])
+    ∷ line (coded 64 (check 1 0x30 0x30 0 (replicate 64 0))) (0 ∷ [])
+    ∷ line (coded 64 (check 1 0xF0 0x30 0 (replicate 64 0))) (26 ∷ [])
+    -- a write with data length 8 is done below the limit, and not reachable at it
+    ∷ line (coded 32 (write (2 ^ 32 - 1) [])) (0 ∷ [])
+    ∷ line (coded 32 (write (2 ^ 32) [])) (20 ∷ [])
     ∷ []
 
 -- Each line holds.

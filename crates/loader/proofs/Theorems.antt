@@ -1,5 +1,5 @@
 -- What load is held to, each under the sentence that it carries (document 01).
-use mathlib.Core.Bool.{Bool, true, false, _&&_}
+use mathlib.Core.Bool.{Bool, _&&_}
 use mathlib.Core.Path.{_≡_, refl, sym, ap, _∙_}
 use mathlib.Core.List.{List, [], _∷_, map}
 use mathlib.Core.Logic.{_⊎_, inl, inr, _≢_}
@@ -11,10 +11,11 @@ use lib.ListN.{length, take}
 use Rattle.answers.specs.Answers.{Outcome, refused, recordBytes}
 use Rattle.answers.specs.Rules.{pick, firstBroken}
 use Rattle.answers.specs.declared.Answer.{Answer}
+use Rattle.answers.proofs.RecordLaws.{answered-alike}
 use Rattle.board.specs.Map.{regions}
 use Rattle.chain.specs.Blocks.{blockOf, blockCode, fileUpTo}
 use Rattle.chain.specs.Hashsum.{sumLength}
-use Rattle.chain.specs.Header.{headerOf, fileLength}
+use Rattle.chain.specs.Header.{headerOf, headerSizeFor, fileLength}
 use Rattle.chain.specs.Open.{opened}
 use Rattle.chain.specs.Pack.{Order, packed}
 use Rattle.chain.proofs.GivenCodes.{among}
@@ -236,9 +237,9 @@ module _ (o : Offer) (output : List ℕ) (told : List ℕ) where
 
 -- Load of what the packer made, whatever its signature field then holds, is a bare run of the file.
 pub load-of-pack : (p : Order) (blank : List ℕ) → length (p .ids) ≡ 4 → packed p blank .code ≡ 0
-    → (image′ : List ℕ) → ButSignature (36 + sumLength (p .ids)) (p .signature) (packed p blank .output) image′
+    → (image′ : List ℕ) → ButSignature (headerSizeFor (sumLength (p .ids))) (p .signature) (packed p blank .output) image′
     → (map table : List ℕ) (mode : ℕ) (memory held : List ℕ)
-    → loaded (offer (take (36 + sumLength (p .ids)) (packed p blank .output)) map table mode (p .signature) image′) memory held
+    → loaded (offer (take (headerSizeFor (sumLength (p .ids))) (packed p blank .output)) map table mode (p .signature) image′) memory held
     ≡ runBare (p .file) map table mode memory held
 load-of-pack = calls.load-of-pack
 
@@ -249,15 +250,7 @@ module _ (o : Offer) where
   pub memory-not-read : (m n held : List ℕ) → length m ≡ length n
       → (loaded o m held .code ≡ loaded o n held .code) × (loaded o m held .answer ≡ loaded o n held .answer)
   memory-not-read m n held e =
-      rw (load-is o m held, load-is o n held, e) (same (eqb (length held) 40) (answerMade o (length n)) _ _)
-    where
-      outcome : Bool → Answer → List ℕ → List ℕ → Outcome
-      outcome b a before after =
-          pick b (record { code = a .code; answer = recordBytes a; lent = after }) (record { code = 1; answer = held; lent = before })
-
-      same : (b : Bool) (a : Answer) (x y : List ℕ) → (outcome b a m x .code ≡ outcome b a n y .code) × (outcome b a m x .answer ≡ outcome b a n y .answer)
-      same true a x y = (refl, refl)
-      same false a x y = (refl, refl)
+      rw (load-is o m held, load-is o n held, e) (answered-alike held (answerMade o (length n)) _ _ _ _)
 
   -- The codes of load are 0 to 27,
   pub load-codes : (memory held : List ℕ) → loaded o memory held .code ≤ 27
@@ -281,5 +274,5 @@ load-codes-met = codes.each-code-given
 -- ---- 7. One result
 
 -- Two results that load's promise allows are equal.
-pub result-unique : (o : Offer) (memory held : List ℕ) (x y : Outcome) → x ≡ loaded o memory held → y ≡ loaded o memory held → x ≡ y
-result-unique o memory held x y e q = e ∙ sym q
+pub result-unique : (o : Offer) (memory held : List ℕ) (x y : Outcome) → loaded o memory held ≡ x → loaded o memory held ≡ y → x ≡ y
+result-unique o memory held x y e q = sym e ∙ q

@@ -4,7 +4,6 @@ ghost use mathlib.Core.Path.{_≡_};
 ghost use Prim.Native.Nat.{_<_, _^_};
 ghost use denote.Ref.{now};
 ghost use lib.ListN.{length};
-ghost use Rattle.answers.specs.Answers.{Outcome};
 ghost use Rattle.answers.specs.Rules.{firstBroken, signatureRules, sizeRules};
 ghost use Rattle.board.specs.Cpuid.{tableRules};
 ghost use Rattle.board.specs.Map.{mapRules};
@@ -32,9 +31,9 @@ pub fn load(
     memory: &mut [u8],
     answer: &mut [u8],
 ) -> u64
-    ensures { λ r. ⌜ _≡_ {A = Outcome} (record { code = r; answer = now (answer .exit); lent = now (memory .exit) })
-        (loaded (record { image = now (image .entry); approved = now (header .entry); map = now (map .entry); table = now (cpuid .entry); mode = mode; expected = «signature_length» })
-        (now (memory .entry)) (now (answer .entry))) ⌝ }
+    ensures { λ r. ⌜ loaded (record { image = now (image .entry); approved = now (header .entry); map = now (map .entry); table = now (cpuid .entry); mode = mode; expected = «signature_length» })
+        (now (memory .entry)) (now (answer .entry))
+        ≡ record { code = r; answer = now (answer .exit); lent = now (memory .exit) } ⌝ }
 {
     if answer.len() != 40 {
         return codes::ARGUMENT;

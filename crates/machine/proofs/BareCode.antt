@@ -61,28 +61,28 @@ module _ (file map table : List ℕ) (mode : ℕ) where
     both false c x y z e = ap (λ (d : Bool). pick d y z) e
 
     -- a record that isn't 40 bytes long
-    pub bare-unheld : (length held ≡ 40 → ⊥) → _≡_ {A = Outcome} (record { code = 1; answer = held; lent = memory }) left
+    pub bare-unheld : (length held ≡ 40 → ⊥) → left ≡ record { code = 1; answer = held; lent = memory }
     unfolding runBare
-    bare-unheld n = sym (both (eqb code 0) (eqb (length held) 40) _ _ _ (ne-eqb (length held) 40 n))
+    bare-unheld n = both (eqb code 0) (eqb (length held) 40) _ _ _ (ne-eqb (length held) 40 n)
 
     module _ (fits : length held ≡ 40) {r : ℕ} {h : List ℕ} (a : Answer) (c : r ≡ a .code) (bytes : h ≡ recordBytes a) where
-      writes : (after : List ℕ) {m : List ℕ} → m ≡ after → _≡_ {A = Outcome} (record { code = r; answer = h; lent = m }) (answered held a memory after)
+      writes : (after : List ℕ) {m : List ℕ} → m ≡ after → answered held a memory after ≡ record { code = r; answer = h; lent = m }
       writes after e =
-          (λ i. record { code = c i; answer = bytes i; lent = e i })
-          ∙ sym (ap (λ (b : Bool). pick b (record { code = a .code; answer = recordBytes a; lent = after }) (record { code = 1; answer = held; lent = memory })) (eq-eqb (length held) 40 fits))
+          ap (λ (b : Bool). pick b (record { code = a .code; answer = recordBytes a; lent = after }) (record { code = 1; answer = held; lent = memory })) (eq-eqb (length held) 40 fits)
+          ∙ sym (λ i. record { code = c i; answer = bytes i; lent = e i })
 
-      pub bare-refuses : (code ≡ 0 → ⊥) → a ≡ refused code → _≡_ {A = Outcome} (record { code = r; answer = h; lent = memory }) left
+      pub bare-refuses : (code ≡ 0 → ⊥) → a ≡ refused code → left ≡ record { code = r; answer = h; lent = memory }
       unfolding runBare
       bare-refuses n e =
-          writes memory refl ∙ ap (λ (x : Answer). answered held x memory memory) e
-          ∙ sym (ap (λ (b : Bool). pick b ran (answered held (refused code) memory memory)) (ne-eqb code 0 n))
+          ap (λ (b : Bool). pick b ran (answered held (refused code) memory memory)) (ne-eqb code 0 n)
+          ∙ ap (λ (x : Answer). answered held x memory memory) (sym e) ∙ writes memory refl
 
       pub bare-runs : {end : State} {m : List ℕ} → code ≡ 0 → end ≡ ranBare (jobOf (length file) map table mode) file → a ≡ answerOr (end .phase) 0 0 end
           → m ≡ applied (regions map) memory (trace (jobOf (length file) map table mode) (begun (jobOf (length file) map table mode)) file)
-          → _≡_ {A = Outcome} (record { code = r; answer = h; lent = m }) left
+          → left ≡ record { code = r; answer = h; lent = m }
       unfolding runBare
       bare-runs z e f m =
           let job = jobOf (length file) map table mode in
           let after = applied (regions map) memory (trace job (begun job) file) in
-          writes after m ∙ ap (λ (x : Answer). answered held x memory after) (f ∙ ap (λ (s : State). answerOr (s .phase) 0 0 s) e)
-          ∙ sym (ap (λ (b : Bool). pick b ran (answered held (refused code) memory memory)) (eq-eqb code 0 z))
+          ap (λ (b : Bool). pick b ran (answered held (refused code) memory memory)) (eq-eqb code 0 z)
+          ∙ ap (λ (x : Answer). answered held x memory after) (sym (f ∙ ap (λ (s : State). answerOr (s .phase) 0 0 s) e)) ∙ writes after m

@@ -1,7 +1,7 @@
--- Computed cases: for each code of a bare run an input that gives it, and the cases of document 01 that a command decides.
+-- Computed cases: for each code of a bare run an input that gives it.
 use mathlib.Core.Path.{_≡_, refl}
 use mathlib.Core.List.{List, [], _∷_, _++_, map}
-use Prim.Native.Nat.{ℕ, _-_, _^_}
+use Prim.Native.Nat.{ℕ, _^_}
 use lib.ListN.{length, replicate}
 use Rattle.octets.specs.Numbers.{little, littleBytes}
 use Rattle.board.specs.Cpuid.{ascending, lookup}
@@ -26,24 +26,24 @@ use Rattle.machine.specs.Machine.{
 
 -- ---- files, maps and tables
 
-abbrev magic : List ℕ
+abbrev pub magic : List ℕ
 magic = littleBytes 8 0x8adc5fa2448cb65e
 
 -- a command with its reserved bytes set
-abbrev command : ℕ → List ℕ → List ℕ
+abbrev pub command : ℕ → List ℕ → List ℕ
 command id bytes = littleBytes 2 id ++ replicate 6 255 ++ littleBytes 8 (length bytes) ++ bytes
 
-abbrev write : ℕ → List ℕ → List ℕ
+abbrev pub write : ℕ → List ℕ → List ℕ
 write a bytes = command 0 (littleBytes 8 a ++ bytes)
 
-abbrev fill : ℕ → ℕ → List ℕ
+abbrev pub fill : ℕ → ℕ → List ℕ
 fill a n = command 1 (littleBytes 8 a ++ littleBytes 8 n ++ (7 ∷ []) ++ replicate 7 255)
 
-abbrev entry : ℕ → List ℕ
+abbrev pub entry : ℕ → List ℕ
 entry a = command 2 (littleBytes 8 a)
 
 -- of ECX input 0
-abbrev check : ℕ → ℕ → ℕ → ℕ → List ℕ → List ℕ
+abbrev pub check : ℕ → ℕ → ℕ → ℕ → List ℕ → List ℕ
 check eax value mask register text =
     command 3
     (littleBytes 4 0 ++ littleBytes 4 eax ++ littleBytes 4 value ++ littleBytes 4 mask ++ (register ∷ []) ++ replicate 7 255 ++ text)
@@ -53,7 +53,7 @@ abbrev small : List ℕ
 small = littleBytes 8 0x1000 ++ littleBytes 8 16
 
 -- one record, of inputs EAX 1, ECX 0: EAX 0xF0
-abbrev leaf : List ℕ
+abbrev pub leaf : List ℕ
 leaf = littleBytes 4 1 ++ littleBytes 4 0 ++ littleBytes 4 0xF0 ++ replicate 12 0
 
 -- ---- the codes
@@ -96,38 +96,3 @@ cases =
 pub each-code-given : map returned cases ≡ 0 ∷ 1 ∷ 2 ∷ 3 ∷ 16 ∷ 17 ∷ 18 ∷ 19 ∷ 20 ∷ 21 ∷ 22 ∷ 23 ∷ 24 ∷ 25 ∷ 26 ∷ 27 ∷ []
 unfolding little littleBytes ascending lookup ordered total uncovered records runBare hasZero begins finished magicRead passed headerRead writeRead fillRead entryRead checkRead parametersRead react run
 each-code-given = refl
-
--- ---- the cases of document 01, "On both sides of each line", that a command decides
-
--- M: 0x1000 length 0x1000; 0x100000 length 0x2000; memory 12,288 bytes
-abbrev onM : ℕ → List ℕ → Case
-onM mode commands =
-    record {
-      file = magic ++ commands ++ entry 0;
-      map = littleBytes 8 0x1000 ++ littleBytes 8 0x1000 ++ littleBytes 8 0x100000 ++ littleBytes 8 0x2000;
-      table = leaf;
-      mode = mode;
-      memory = 12288;
-    }
-
-abbrev pub documentCases : List Case
-documentCases =
-    -- a write of 16 bytes at 0x1FF0 is RAM, one of 17 is not
-    onM 64 (write 0x1FF0 (replicate 16 5))
-    ∷ onM 64 (write 0x1FF0 (replicate 17 5))
-    -- mode 32: a fill of 1 at 0xFFFFFFFF is reachable and not RAM, one of 2 is not reachable
-    ∷ onM 32 (fill 0xFFFFFFFF 1)
-    ∷ onM 32 (fill 0xFFFFFFFF 2)
-    -- mode 64: a fill of 2 at 2^64 - 1 does not wrap
-    ∷ onM 64 (fill (2 ^ 64 - 1) 2)
-    -- register 0xF0, mask 0x30: value 0x30 passes, value 0xF0 does not
-    ∷ onM 64 (check 1 0x30 0x30 0 (replicate 64 0))
-    ∷ onM 64 (check 1 0xF0 0x30 0 (replicate 64 0))
-    -- a write with data length 8 and an address below the limit is done; at the limit it is not reachable
-    ∷ onM 32 (write (2 ^ 32 - 1) [])
-    ∷ onM 32 (write (2 ^ 32) [])
-    ∷ []
-
-pub document-cases-hold : map returned documentCases ≡ 0 ∷ 21 ∷ 21 ∷ 20 ∷ 20 ∷ 0 ∷ 26 ∷ 0 ∷ 20 ∷ []
-unfolding little littleBytes ascending lookup ordered total uncovered records runBare hasZero begins finished magicRead passed headerRead writeRead fillRead entryRead checkRead parametersRead react run
-document-cases-hold = refl

@@ -1,5 +1,5 @@
 -- The theorems of the command machine and of running bare, each with the sentence that it carries.
-use mathlib.Core.Bool.{Bool, true, false}
+use mathlib.Core.Bool.{Bool}
 use mathlib.Core.Path.{_≡_, refl, sym, ap, ap₂, subst, _∙_}
 use mathlib.Core.List.{List, [], _∷_, _++_, append-nil, List·Memᴰ, List·Memᴰ·head, List·Memᴰ·tail, Memᴰ·append-right}
 use mathlib.Core.Logic.{_⊎_, inl, inr, _≢_}
@@ -9,9 +9,10 @@ use native.Mathlib.Omega.{arith}
 use borrow.Author.Tests.{eq-eqb, ne-eqb}
 use lib.Dec.{eqb, lit≤}
 use lib.ListN.{length, getD, length-append}
-use Rattle.answers.specs.Answers.{Outcome, answered, refused, recordBytes}
+use Rattle.answers.specs.Answers.{Outcome, answered, refused}
 use Rattle.answers.specs.Rules.{pick, Rule, firstBroken, sizeRules}
 use Rattle.answers.specs.declared.Answer.{Answer}
+use Rattle.answers.proofs.RecordLaws.{answered-alike}
 use Rattle.board.specs.Cpuid.{tableRules}
 use Rattle.board.specs.Map.{Region, regions, total, offset, mapRules}
 use Rattle.board.proofs.MapLaws.{Ordered, Covered, offset-injective, offset-inside}
@@ -229,15 +230,7 @@ module _ (file map table : List ℕ) (mode : ℕ) where
       × (runBare file map table mode m held .answer ≡ runBare file map table mode n held .answer)
   memory-not-read m n held e =
       rw (bare-is file map table mode m held, bare-is file map table mode n held, e)
-      (same (eqb (length held) 40) (bareAnswer file map table mode (length n)) _ _)
-    where
-      outcome : Bool → Answer → List ℕ → List ℕ → Outcome
-      outcome b a before after =
-          pick b (record { code = a .code; answer = recordBytes a; lent = after }) (record { code = 1; answer = held; lent = before })
-
-      same : (b : Bool) (a : Answer) (x y : List ℕ) → (outcome b a m x .code ≡ outcome b a n y .code) × (outcome b a m x .answer ≡ outcome b a n y .answer)
-      same true a x y = (refl, refl)
-      same false a x y = (refl, refl)
+      (answered-alike held (bareAnswer file map table mode (length n)) _ _ _ _)
 
   -- Two files that differ only in reserved bytes get the same answer and memory.
   pub reserved-bytes-not-read : (other memory held : List ℕ) → Alike job (begun job) file other
@@ -284,6 +277,6 @@ module _ (file map table : List ℕ) (mode : ℕ) where
           ∙ ap (λ (xs : List Store). pick (eqb (firstBroken (rules (length file))) 0) xs []) (alike-run job (begun job) file other q .1)
 
   -- Two results that the promise of run bare allows are equal.
-  pub result-unique : (memory held : List ℕ) (o p : Outcome) → o ≡ runBare file map table mode memory held → p ≡ runBare file map table mode memory held
-      → o ≡ p
-  result-unique memory held o p e q = e ∙ sym q
+  pub result-unique : (memory held : List ℕ) (x y : Outcome) → runBare file map table mode memory held ≡ x → runBare file map table mode memory held ≡ y
+      → x ≡ y
+  result-unique memory held x y e q = sym e ∙ q

@@ -1,7 +1,6 @@
 // Running bare: a command file without SBS.
 ghost use mathlib.Core.Path.{_≡_};
 ghost use denote.Ref.{now};
-ghost use Rattle.answers.specs.Answers.{Outcome};
 ghost use Rattle.answers.specs.Rules.{firstBroken};
 ghost use Rattle.machine.specs.Bare.{runBare, bareRules, modeRules};
 use answers::codes;
@@ -18,7 +17,8 @@ pub fn run_bare(
     memory: &mut [u8],
     answer: &mut [u8],
 ) -> u64
-    ensures { λ r. ⌜ _≡_ {A = Outcome} (record { code = r; answer = now (answer .exit); lent = now (memory .exit) }) (runBare (now (file .entry)) (now (map .entry)) (now (table .entry)) mode (now (memory .entry)) (now (answer .entry))) ⌝ }
+    ensures { λ r. ⌜ runBare (now (file .entry)) (now (map .entry)) (now (table .entry)) mode (now (memory .entry)) (now (answer .entry))
+        ≡ record { code = r; answer = now (answer .exit); lent = now (memory .exit) } ⌝ }
 {
     if answer.len() != 40 {
         return codes::ARGUMENT;

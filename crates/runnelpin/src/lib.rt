@@ -4,7 +4,6 @@ ghost use mathlib.Core.List.{[], _∷_};
 ghost use mathlib.Core.Path.{_≡_};
 ghost use denote.Ref.{now};
 ghost use Rattle.octets.specs.Parts.{part};
-ghost use Rattle.answers.specs.Answers.{Outcome};
 ghost use Rattle.chain.specs.Open.{opened, signatureField};
 ghost use Rattle.chain.specs.Pack.{packed};
 ghost use Rattle.loader.specs.Load.{loaded};
@@ -88,8 +87,8 @@ pub extern "C" fn runnelpin_run(
     memory: &mut [u8],
     answer: &mut [u8],
 ) -> u64
-    ensures { λ r. ⌜ _≡_ {A = Outcome} (record { code = r; answer = now (answer .exit); lent = now (memory .exit) })
-        (runBare (now (file .entry)) (now (map .entry)) (now (cpuid .entry)) mode (now (memory .entry)) (now (answer .entry))) ⌝ }
+    ensures { λ r. ⌜ runBare (now (file .entry)) (now (map .entry)) (now (cpuid .entry)) mode (now (memory .entry)) (now (answer .entry))
+        ≡ record { code = r; answer = now (answer .exit); lent = now (memory .exit) } ⌝ }
 {
     machine::bare::run_bare(file, map, cpuid, mode, memory, answer)
 }
@@ -106,9 +105,9 @@ pub extern "C" fn runnelpin_load(
     memory: &mut [u8],
     answer: &mut [u8],
 ) -> u64
-    ensures { λ r. ⌜ _≡_ {A = Outcome} (record { code = r; answer = now (answer .exit); lent = now (memory .exit) })
-        (loaded (record { image = now (image .entry); approved = now (header .entry); map = now (map .entry); table = now (cpuid .entry); mode = mode; expected = «signature_length» })
-        (now (memory .entry)) (now (answer .entry))) ⌝ }
+    ensures { λ r. ⌜ loaded (record { image = now (image .entry); approved = now (header .entry); map = now (map .entry); table = now (cpuid .entry); mode = mode; expected = «signature_length» })
+        (now (memory .entry)) (now (answer .entry))
+        ≡ record { code = r; answer = now (answer .exit); lent = now (memory .exit) } ⌝ }
 {
     loader::load(
         image,
