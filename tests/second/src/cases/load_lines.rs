@@ -1,8 +1,10 @@
 //! When load judges what: files cut so that the last block begins at a chosen byte, for either
 //! program.
 
+use super::lent::Mapping;
 use super::load::Load;
 use super::run_lines::File;
+use super::sbs_lines::longest;
 use crate::answer::number;
 use crate::sbs::{self, field};
 
@@ -23,15 +25,19 @@ fn cut(file: &[u8], cut: usize) -> (Vec<u8>, u64) {
 
 /// The record and the first six bytes of memory: one region of 64 bytes at 0x1000, mode 32.
 fn load(call: Load, image: &[u8]) -> (Vec<u64>, Vec<u8>) {
+    load_by(call, image, &image[..field::ROOT + SUM], SIGNATURE as u64)
+}
+
+fn load_by(call: Load, image: &[u8], header: &[u8], expected: u64) -> (Vec<u64>, Vec<u8>) {
     let map = [0x1000u64.to_le_bytes(), 64u64.to_le_bytes()].concat();
     let (mut memory, mut answer) = ([0; 64], [0x77; 40]);
     let code = call(
         image,
-        &image[..field::ROOT + SUM],
+        header,
         &map,
         &[],
         32,
-        SIGNATURE as u64,
+        expected,
         &mut memory,
         &mut answer,
     );
@@ -46,6 +52,7 @@ pub fn load_lines(call: Load) {
     headers_and_data_wait(call);
     stores_come_before_the_next_block(call);
     order(call);
+    lengths(call);
 }
 
 fn cuts_make_no_difference(call: Load) {
@@ -174,6 +181,21 @@ fn order(call: Load) {
         let (header, blocks) = image.split_at_mut(FIRST);
         sbs::chain(header, blocks, IDS, size);
         assert_eq!(load(call, &image).0, [code, place, 0, 0, 0]);
+    }
+}
+
+/// Images around the largest length, which nobody has filled.
+fn lengths(call: Load) {
+    let (header, expected) = longest();
+    for (length, code, place) in [
+        ((1 << 30) + 1, 1, 0),
+        (1 << 30, 13, 1),
+        ((1 << 30) - 1, 12, 0),
+    ] {
+        let mut image = Mapping::new(length);
+        image[..header.len()].copy_from_slice(&header);
+        let (record, _) = load_by(call, &image, &header, expected);
+        assert_eq!(record, [code, place, 0, 0, 0], "image of {length} bytes");
     }
 }
 

@@ -200,15 +200,18 @@ fn open_blocks(open: Open) {
     assert_eq!(one.of(image).answer(open), [14, 1, 0, 0, 0]);
 }
 
+/// The header of an image of the largest length, and its signature length.
+pub(super) fn longest() -> (Vec<u8>, u64) {
+    let mut header = sound(64).image[..68].to_vec();
+    field::set(&mut header, field::BLOCK_SIZE, 4096);
+    field::set(&mut header, field::SIGNATURE, 4028);
+    field::set(&mut header, field::COUNT, (1 << 18) - 1);
+    (header, 4028)
+}
+
 /// Images around the largest length, which nobody has filled.
 fn open_lengths(open: Open) {
-    let header = {
-        let mut header = sound(64).image[..68].to_vec();
-        field::set(&mut header, field::BLOCK_SIZE, 4096);
-        field::set(&mut header, field::SIGNATURE, 4028);
-        field::set(&mut header, field::COUNT, (1 << 18) - 1);
-        header
-    };
+    let (header, signature) = longest();
     let mut answer = [0; 40];
     for (length, output, expected) in [
         ((1 << 30) + 1, 0, [1, 0]),
@@ -220,7 +223,7 @@ fn open_lengths(open: Open) {
         image[..68].copy_from_slice(&header);
         let mut output = Mapping::new(output + 1);
         let end = output.len() - 1;
-        let code = open(&image, &header, 4028, &mut output[..end], &mut answer);
+        let code = open(&image, &header, signature, &mut output[..end], &mut answer);
         let place = crate::answer::number(&answer[8..16]);
         assert_eq!([code, place], expected, "image of {length} bytes");
     }
