@@ -101,6 +101,23 @@ fn the_keys_home_goes_whatever_happens() {
     }
 }
 
+#[test]
+fn only_rsa_keys_sign() {
+    let desk = sample::desk();
+    let sign = repository().join("tools/sign");
+    let line = format!(
+        "gpg --batch --quiet --passphrase '' --quick-generate-key other ed25519 sign never && \
+         {} other file signed",
+        sign.display()
+    );
+    let said = script(&desk, "with-key", &["sh", "-c", &line]);
+    assert!(said.status != 0 && !desk.has("signed"), "{said:?}");
+    assert!(
+        said.err.ends_with("sign: other is no RSA key\n"),
+        "{said:?}"
+    );
+}
+
 /// A gpg whose signatures are never as long as the one before.
 const RESTLESS: &str = "#!/bin/sh
 while [ $# -gt 0 ]; do [ \"$1\" = --output ] && out=$2; shift; done
