@@ -54,6 +54,9 @@ fn header_and_signature_give_parts_of_the_image() {
         (0, &image[..HEADER])
     );
     assert!(said.out.contains(NOT_APPROVED));
+    let json = desk.run("header image -o part --json").json();
+    assert_eq!(json["code"].number(), 0);
+    assert_eq!(json["notes"].list()[0].text(), NOT_APPROVED);
     let said = desk.run("signature image --header header -o part");
     assert_eq!(
         (said.status, desk.get("part").as_slice()),
