@@ -1,16 +1,17 @@
--- Laws of the loops over the hash IDs: one more digest joined, one more ID judged.
+-- Laws of the loops over the hash IDs: one more digest joined, one more compared, one more ID judged.
 use mathlib.Core.Path.{_≡_, refl, sym, ap, ap₂, _∙_}
-use mathlib.Core.Bool.{Bool, true, false}
+use mathlib.Core.Bool.{Bool, true, false, not, _&&_, and-assoc, Bool·not-not}
 use mathlib.Core.List.{List, [], _∷_, _++_, append-assoc, append-nil}
 use Prim.Native.Nat.{ℕ, zero, suc, _+_, _-_, _≤_, _<_}
 use native.Mathlib.Nat.{add-assoc, zero-sub}
 use native.Mathlib.Numerals.{add-one, unary-clauses}
 use native.Mathlib.Omega.{arith}
-use borrow.Author.Tests.{eq-eqb, ne-eqb}
+use borrow.Author.Tests.{eq-eqb, ne-eqb, eqb-true, eqb-false}
 use lib.Dec.{eqb}
-use lib.ListN.{length, getD, take, drop, replicate, length-take}
-use lib.Seq.{take-suc, take-length, take-append-seam, take-at, take-append-le, drop-append-add, drop-cons}
-use Rattle.octets.specs.Parts.{put}
+use lib.ListN.{length, getD, take, drop, replicate, drop-of-length-le, length-drop, length-take}
+use lib.Seq.{take-suc, take-length, take-append-seam, take-at, take-append-le, drop-append-add, drop-cons, drop-drop}
+use Rattle.octets.specs.Parts.{part, put, same}
+use Rattle.octets.proofs.TestLaws.{same-eq, ne-same}
 use Rattle.answers.specs.Rules.{pick}
 use Rattle.hashes.specs.Digests.{digest, digestLength}
 use Rattle.hashes.specs.Code.{digestedBy}
@@ -127,3 +128,59 @@ filled-more ids i m bytes h e =
 
     left : 256 - sumLength (take i ids) - length d ≡ 256 - sumLength (take (i + 1) ids)
     left = omega (arith, length-more ids i h, length-digest (getD ids i 0) m)
+
+-- ---- digests compared one by one
+
+-- joined bytes are the same where their first part is and what comes behind it
+same-append : (a b s : List ℕ) → same (a ++ b) s ≡ (same a (take (length a) s) && same b (drop (length a) s))
+unfolding same
+same-append [] b s = refl
+same-append (x ∷ a) b [] = refl
+same-append (x ∷ a) b (y ∷ s) =
+    ap (λ (t : Bool). eqb x y && t) (same-append a b s)
+    ∙ sym (and-assoc (eqb x y) (same a (take (length a) s)) (same b (drop (length a) s)))
+
+-- nothing is expected behind the last digest
+pub compared-all : (s : List ℕ) (at : ℕ) → at ≤ length s → same [] (drop at s) ≡ eqb at (length s)
+unfolding same
+compared-all s at l = go (eqb at (length s)) refl
+  where
+    go : (t : Bool) → eqb at (length s) ≡ t → same [] (drop at s) ≡ t
+    go true e = let f : at ≡ length s = eqb-true at (length s) e in ap (same []) (drop-of-length-le s {i = at} (omega arith))
+    go false e = ne-same [] (drop at s) (λ h. eqb-false at (length s) e (omega (arith, ap length h, length-drop at s)))
+
+-- what is left to compare, with i digests compared and at bytes of s
+abbrev pub Left : List ℕ → List ℕ → List ℕ → ℕ → ℕ → Bool
+Left ids m s i at = same (hashsum (drop i ids) m) (drop at s)
+
+module _ (ids m s : List ℕ) (i at : ℕ) (h : i < length ids) (r : Digested) (e : r ≡ digestedBy (getD ids i 0) m) where
+  abbrev d : List ℕ
+  d = take (r .length) (r .bytes)
+
+  left-more : Left ids m s i at ≡ (same d (part s at (length d)) && Left ids m s (i + 1) (at + r .length))
+  unfolding hashsum
+  left-more =
+      ap (λ (t : List ℕ). same (hashsum t m) (drop at s)) (drop-cons ids i 0 h)
+      ∙ ap (λ (t : List ℕ). same (t ++ hashsum (drop (suc i) ids) m) (drop at s)) (sym (digest-taken r (getD ids i 0) m e))
+      ∙ same-append d (hashsum (drop (suc i) ids) m) (drop at s)
+      ∙ ap₂ (λ (k : ℕ) (t : List ℕ). same d (part s at (length d)) && same (hashsum (drop k ids) m) t) (sym (add-one i))
+      (drop-drop (length d) at s ∙ ap (λ (n : ℕ). drop (at + n) s) (digest-counted r (getD ids i 0) m e))
+
+  -- the next digest does not stand there
+  pub compared-other : {t : Bool} → t ≡ same d (part s at (length d)) → not t ≡ true → Left ids m s i at ≡ false
+  compared-other {t} g f = left-more ∙ ap (λ (b : Bool). b && Left ids m s (i + 1) (at + r .length)) (sym g ∙ sym (Bool·not-not t) ∙ ap not f)
+
+  -- it does
+  pub compared-more : {t : Bool} → t ≡ same d (part s at (length d)) → not t ≡ false → at ≤ length s
+      → (at + r .length ≤ length s) × (Left ids m s i at ≡ Left ids m s (i + 1) (at + r .length))
+  compared-more {t} g f l =
+      let y : same d (part s at (length d)) ≡ true = sym g ∙ sym (Bool·not-not t) ∙ ap not f in (
+        omega (
+          arith,
+          ap length (same-eq d (part s at (length d)) y),
+          length-take (length d) (drop at s),
+          length-drop at s,
+          digest-counted r (getD ids i 0) m e,
+        ),
+        left-more ∙ ap (λ (b : Bool). b && Left ids m s (i + 1) (at + r .length)) y,
+      )

@@ -1,6 +1,8 @@
 ghost use mathlib.Core.Path.{_≡_};
 ghost use denote.Ref.{now};
-ghost use Rattle.octets.specs.Parts.{same};
+ghost use Prim.Native.Nat.{_≤_};
+ghost use lib.ListN.{length};
+ghost use Rattle.octets.specs.Parts.{part, same};
 ghost use Rattle.answers.specs.Rules.{firstBroken};
 ghost use Rattle.chain.specs.Code.{joinedOf};
 ghost use Rattle.chain.specs.Hashsum as spec;
@@ -19,8 +21,8 @@ pub fn hashsum(ids: [u64; 4], message: &[u8]) -> Joined
 {
     let mut bytes = [0u8; 256];
     let mut at = 0usize;
-    for position in 0usize..4 {
-        let d = hashes::digest(ids[position], message);
+    for i in 0usize..4 {
+        let d = hashes::digest(ids[i], message);
         let digest = d.bytes;
         let n = d.length;
         parts::copy(&mut bytes, at, &digest[..n]);
@@ -29,14 +31,33 @@ pub fn hashsum(ids: [u64; 4], message: &[u8]) -> Joined
     Joined { bytes, length: at }
 }
 
-// Whether the hashsum of a message is the expected one: each digest is compared, to its last byte.
+// Whether the hashsum of a message is the expected one: compared digest by digest, so that none is kept.
 pub fn hashsum_is(ids: [u64; 4], message: &[u8], expected: &[u8]) -> bool
     ensures { λ r. ⌜ r ≡ same (spec.hashsum ids (now (message .entry))) (now (expected .entry)) ⌝ }
 {
-    let sum = hashsum(ids, message);
-    let bytes = sum.bytes;
-    let n = sum.length;
-    parts::equal(&bytes[..n], expected)
+    let mut at = 0usize;
+    for position in 0usize..4 {
+        let d = hashes::digest(ids[position], message);
+        let digest = d.bytes;
+        let n = d.length;
+        if !stands_at(expected, at, &digest[..n]) {
+            return false;
+        }
+        at = at + n;
+    }
+    at == expected.len()
+}
+
+// Whether the bytes of `s` from offset `at` on begin with `first`.
+fn stands_at(s: &[u8], at: usize, first: &[u8]) -> bool
+    requires { ⌜ at ≤ length (now s) ⌝ }
+    ensures { λ r. ⌜ r ≡ same (now (first .entry)) (part (now (s .entry)) at (length (now (first .entry)))) ⌝ }
+{
+    if s.len() - at < first.len() {
+        return false;
+    }
+    let end = at + first.len();
+    parts::equal(first, &s[at..end])
 }
 
 // The length of the hashsums that these IDs give.

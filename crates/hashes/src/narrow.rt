@@ -44,30 +44,29 @@ impl State {
         y.plus(self)
     }
 
-    // The hash value with every whole block of `bytes` worked in.
-    fn blocks(self, bytes: &[u8], k: &[u32; 64]) -> State
-        requires { ⌜ now k ≡ narrow .K ⌝ }
+    // The hash value with every whole block of `bytes` worked in. The constants are copied once: read where they stand they would be copied at each use.
+    fn blocks(self, bytes: &[u8]) -> State
         ensures { λ r. ⌜ narrowWords r ≡ afterBlocks narrow (narrowWords self) (now (bytes .entry)) (length (now (bytes .entry)) / blockBytes narrow) ⌝ }
     {
         let n = bytes.len() / 64;
+        let k = K;
         let mut v = self;
         let mut i: usize = 0;
         while i < n {
-            v = v.block(bytes, i * 64, k);
+            v = v.block(bytes, i * 64, &k);
             i += 1;
         }
         v
     }
 
-    // The hash value with a whole message worked in. The constants are copied once: read where they stand they would be copied at each use.
+    // The hash value with a whole message worked in.
     fn message(self, message: &[u8]) -> State
         ensures { λ r. ⌜ narrowWords r ≡ hashed narrow (narrowWords self) (now (message .entry)) ⌝ }
     {
-        let k = K;
-        let x = self.blocks(message, &k);
+        let x = self.blocks(message);
         let mut last = [0u8; 128];
         let n = pad(&mut last, message);
-        x.blocks(&last[..n], &k)
+        x.blocks(&last[..n])
     }
 
     // The first `n` words as bytes, and zeros.

@@ -40,20 +40,20 @@ copy-requires : tie.Need-copy-requires Inv-loop μ-loop
 copy-requires c κs =
     let b = c .before .before .before in
     let l = b .before .before in
-    let n : b .digest .result .length ≡ digestLength (getD (l .before .before .args .t1) (l .loop .position) 0) = ap (λ (d : Digested). d .length) (b .digest .ensures) in
+    let n : b .digest .result .length ≡ digestLength (getD (l .before .before .args .t1) (l .loop .i) 0) = ap (λ (d : Digested). d .length) (b .digest .ensures) in
     omega (
       arith,
       digest-counted (b .digest .result) _ _ (b .digest .ensures),
       l .loop .inv,
-      room-more (l .before .before .args .t1) (l .loop .position) (l .before .before .good .0 .1 .0 .1) (omega arith),
+      room-more (l .before .before .args .t1) (l .loop .i) (l .before .before .good .0 .1 .0 .1) (omega arith),
     )
 
 add-at : tie.Need-add-at Inv-loop μ-loop
 add-at c =
     let b = c .before .before .before .before .before in
     let l = b .before .before in
-    let n : b .digest .result .length ≡ digestLength (getD (l .before .before .args .t1) (l .loop .position) 0) = ap (λ (d : Digested). d .length) (b .digest .ensures) in
-    omega (arith, l .loop .inv, room-more (l .before .before .args .t1) (l .loop .position) (l .before .before .good .0 .1 .0 .1) (omega arith))
+    let n : b .digest .result .length ≡ digestLength (getD (l .before .before .args .t1) (l .loop .i) 0) = ap (λ (d : Digested). d .length) (b .digest .ensures) in
+    omega (arith, l .loop .inv, room-more (l .before .before .args .t1) (l .loop .i) (l .before .before .good .0 .1 .0 .1) (omega arith))
 
 loop-again : tie.Need-loop-again Inv-loop μ-loop
 loop-again c =
@@ -62,13 +62,13 @@ loop-again c =
     let ids = l .before .before .args .t1 in
     let m = l .before .before .args .message .now in
     let e : length ids ≡ 4 = l .before .before .good .0 .1 .0 .1 in
-    let n : b .digest .result .length ≡ digestLength (getD ids (l .loop .position) 0) = ap (λ (d : Digested). d .length) (b .digest .ensures) in (
+    let n : b .digest .result .length ≡ digestLength (getD ids (l .loop .i) 0) = ap (λ (d : Digested). d .length) (b .digest .ensures) in (
       omega arith,
       c .before .copy .kept .0 ∙ l .loop .inv .1,
-      ap₂ (λ (x y : ℕ). x + y) (l .loop .inv .2) n ∙ sym (length-more ids (l .loop .position) (omega arith)),
+      ap₂ (λ (x y : ℕ). x + y) (l .loop .inv .2) n ∙ sym (length-more ids (l .loop .i) (omega arith)),
       c .before .copy .ensures
           ∙ ap₂ (λ (at : ℕ) (v : List ℕ). put (l .loop .bytes) at v) (l .loop .inv .2) (digest-taken (b .digest .result) _ _ (b .digest .ensures))
-          ∙ filled-more ids (l .loop .position) m (l .loop .bytes) (omega arith) (l .loop .inv .3),
+          ∙ filled-more ids (l .loop .i) m (l .loop .bytes) (omega arith) (l .loop .inv .3),
     )
 
 returns : tie.Need-returns Inv-loop μ-loop
@@ -77,7 +77,7 @@ returns c =
     let ids = l .before .before .args .t1 in
     let m = l .before .before .args .message .now in
     let e : length ids ≡ 4 = l .before .before .good .0 .1 .0 .1 in
-    let all : take (l .loop .position) ids ≡ ids = take-all (l .loop .position) ids (omega arith) in
+    let all : take (l .loop .i) ids ≡ ids = take-all (l .loop .i) ids (omega arith) in
     (λ j. record { bytes = l .loop .inv .3 j; length = l .loop .inv .2 j }) ∙ ap (λ (t : List ℕ). joinedOf t m) all
 
 pub hashsum-spec : {M : Type 1} → statement M
