@@ -1,16 +1,26 @@
 //! Signed for real: by GnuPG with a key made for the test, approved by gpgv, and loaded.
 
-use std::fs;
 use std::path::Path;
 use std::process::Command;
+use std::{env, fs};
 use tool::desk::{repository, tool, Desk, Said};
 use tool::sample;
 
-/// Runs one of the repository's scripts in the folder.
+/// Runs one of the repository's scripts in the folder, with the commands and the keys that are there.
 fn script(desk: &Desk, name: &str, words: &[&str]) -> Said {
     let mut command = Command::new(repository().join("tools").join(name));
+    let path = format!("{}:{}", desk.path("").display(), env::var("PATH").unwrap());
     command.args(words).env("RUNNELPIN", tool());
+    command.env("PATH", path).env("GNUPGHOME", desk.path(""));
     desk.start(command)
+}
+
+/// Makes a command. The shell writes it: what this process writes, one that another test starts has
+/// open for a moment too, and a file that is open for writing can't be run.
+fn put_command(desk: &Desk, name: &str, text: &str) {
+    desk.put("text", text);
+    let said = desk.shell(&format!("install -m 755 text {name}"));
+    assert_eq!(said.status, 0, "{said:?}");
 }
 
 fn approve(desk: &Desk, image: &str, header: &str) -> Said {
@@ -83,22 +93,37 @@ fn another_key_approves_nothing() {
     assert!(!desk.has("approved"));
 }
 
+/// Runs a line of shell with a key, and sees home and agent gone.
+fn leaves_nothing(desk: &Desk, line: &str, status: i32) {
+    let line = format!("echo \"$GNUPGHOME\"; {line}");
+    let said = script(desk, "with-key", &["sh", "-c", &line]);
+    assert_eq!(said.status, status, "{said:?}");
+    let home = said.out.trim();
+    assert!(!home.is_empty() && !Path::new(home).exists(), "{said:?}");
+    let processes = desk.shell("ps -eo args").out;
+    assert!(!processes.contains(home), "an agent is left");
+}
+
 #[test]
 fn the_keys_home_goes_whatever_happens() {
     let desk = Desk::new();
-    for (line, status) in [
-        ("true", 0),
-        ("exit 7", 7),
-        ("kill -TERM $PPID; sleep 1", 143),
-    ] {
-        let line = format!("echo \"$GNUPGHOME\"; {line}");
-        let said = script(&desk, "with-key", &["sh", "-c", &line]);
-        assert_eq!(said.status, status, "{said:?}");
-        let home = said.out.trim();
-        assert!(!home.is_empty() && !Path::new(home).exists(), "{said:?}");
-        let processes = desk.shell("ps -eo args").out;
-        assert!(!processes.contains(home), "an agent is left");
-    }
+    leaves_nothing(&desk, "true", 0);
+    leaves_nothing(&desk, "exit 7", 7);
+    leaves_nothing(&desk, "kill -TERM $PPID; sleep 1", 143);
+}
+
+/// A gpgconf whose agent ends a second after it was told to.
+const SLOW: &str = "#!/bin/sh
+agent=$(gpg-connect-agent 'getinfo pid' /bye | sed -n 's/^D //p')
+kill -STOP $agent
+(sleep 1; kill -KILL $agent) >/dev/null 2>&1 &
+";
+
+#[test]
+fn the_agent_is_waited_for() {
+    let desk = Desk::new();
+    put_command(&desk, "gpgconf", SLOW);
+    leaves_nothing(&desk, "true", 0);
 }
 
 #[test]
@@ -128,13 +153,8 @@ head -c $((300 + $(wc -l <signings))) /dev/zero >\"$out\"
 #[test]
 fn signing_gives_up_after_20_signatures() {
     let desk = sample::desk();
-    desk.put("gpg", RESTLESS);
-    let sign = repository().join("tools/sign");
-    let said = desk.shell(&format!(
-        "chmod +x gpg; PATH=.:$PATH RUNNELPIN={} {} key file signed",
-        tool().display(),
-        sign.display()
-    ));
+    put_command(&desk, "gpg", RESTLESS);
+    let said = script(&desk, "sign", &["key", "file", "signed"]);
     assert!(said.status == 1 && !desk.has("signed"), "{said:?}");
     assert_eq!(desk.get("signings").len(), 20);
 }
