@@ -44,7 +44,8 @@ pub fn lookup(table: &[u8], eax: u32, ecx: u32, register: u64) -> Found
 // Whether record `i` has both inputs.
 fn has_inputs(table: &[u8], i: usize, eax: u32, ecx: u32) -> bool
     requires { ⌜ i < length (now table) / 24 ⌝ }
-    ensures { λ r. ⌜ r ≡ pick (eqb (spec.leaf (now (table .entry)) i .eaxInput) eax) (eqb (spec.leaf (now (table .entry)) i .ecxInput) ecx) false ⌝ }
+    ensures { λ r. ⌜ r ≡ pick (eqb (spec.leaf (now (table .entry)) i .eaxInput) eax)
+        (eqb (spec.leaf (now (table .entry)) i .ecxInput) ecx) false ⌝ }
 {
     if eax_input(table, i) == eax {
         return ecx_input(table, i) == ecx;

@@ -34,7 +34,8 @@ pub fn block_code(image: &[u8], approved: &[u8], k: u64) -> u64
 // The file's bytes in block k, as a part of the image.
 pub fn file_bytes<'a>(image: &'a [u8], approved: &[u8], k: u64) -> &'a [u8]
     requires { ⌜ HasBlock (now image) (now approved) k ⌝ }
-    ensures { λ r. ⌜ now r ≡ spec.fileBytes (headerOf (now (approved .entry))) k (spec.blockOf (now (image .entry)) (now (approved .entry)) k) ⌝ }
+    ensures { λ r. ⌜ now r ≡ spec.fileBytes (headerOf (now (approved .entry))) k
+        (spec.blockOf (now (image .entry)) (now (approved .entry)) k) ⌝ }
 {
     let h = header::header_of(approved);
     let at = h.hashsum_length as usize + padding_of(h, k) as usize;

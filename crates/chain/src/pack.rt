@@ -31,7 +31,12 @@ pub fn pack(
     signature_length: u64,
     output: &mut [u8],
 ) -> u64
-    ensures { λ r. ⌜ spec.packed (record { file = now (file .entry); ids = id1 ∷ id2 ∷ id3 ∷ id4 ∷ []; blockSize = «block_size»; signature = «signature_length» }) (now (output .entry))
+    ensures { λ r. ⌜ spec.packed (record {
+      file = now (file .entry);
+      ids = id1 ∷ id2 ∷ id3 ∷ id4 ∷ [];
+      blockSize = «block_size»;
+      signature = «signature_length»;
+    }) (now (output .entry))
         ≡ record { code = r; output = now (output .exit) } ⌝ }
 {
     let ids = [id1, id2, id3, id4];

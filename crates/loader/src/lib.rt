@@ -31,7 +31,14 @@ pub fn load(
     memory: &mut [u8],
     answer: &mut [u8],
 ) -> u64
-    ensures { λ r. ⌜ loaded (record { image = now (image .entry); approved = now (header .entry); map = now (map .entry); table = now (cpuid .entry); mode = mode; expected = «signature_length» })
+    ensures { λ r. ⌜ loaded (record {
+      image = now (image .entry);
+      approved = now (header .entry);
+      map = now (map .entry);
+      table = now (cpuid .entry);
+      mode = mode;
+      expected = «signature_length»;
+    })
         (now (memory .entry)) (now (answer .entry))
         ≡ record { code = r; answer = now (answer .exit); lent = now (memory .exit) } ⌝ }
 {
@@ -64,7 +71,14 @@ fn load_code(
     expected: u64,
     memory: usize,
 ) -> u64
-    ensures { λ r. ⌜ r ≡ firstBroken (loadRules (record { image = now (image .entry); approved = now (approved .entry); map = now (map .entry); table = now (table .entry); mode = mode; expected = expected }) memory) ⌝ }
+    ensures { λ r. ⌜ r ≡ firstBroken (loadRules (record {
+      image = now (image .entry);
+      approved = now (approved .entry);
+      map = now (map .entry);
+      table = now (table .entry);
+      mode = mode;
+      expected = expected;
+    }) memory) ⌝ }
 {
     let argument = argument_code(mode, expected, image.len() as u64);
     if argument != codes::DONE {
@@ -114,7 +128,8 @@ fn load_blocks(
     memory: &mut [u8],
 ) -> Answer
     requires { ⌜ Loadable (now image) (now approved) (now map) (length (now memory)) ⌝ }
-    ensures { λ r. ⌜ BlocksLoaded (offerOf (now (image .entry)) (now (approved .entry)) (now (map .entry)) (now (table .entry)) mode) (now (memory .entry)) r (now (memory .exit)) ⌝ }
+    ensures { λ r. ⌜ BlocksLoaded (offerOf (now (image .entry)) (now (approved .entry)) (now (map .entry)) (now (table .entry)) mode)
+        (now (memory .entry)) r (now (memory .exit)) ⌝ }
 {
     let h = header::header_of(approved);
     let count = h.count as u64;

@@ -131,7 +131,8 @@ pub fn check_code(c: &[u8], table: &[u8]) -> u64
 // What the result register of a check holds.
 fn looked_up(c: &[u8], table: &[u8]) -> Found
     requires { ⌜ length (now c) ≡ 104 ⌝ }
-    ensures { λ r. ⌜ r ≡ lookup (leaves (now (table .entry))) (eax (now (c .entry))) (ecx (now (c .entry))) (resultRegister (now (c .entry))) ⌝ }
+    ensures { λ r. ⌜ r ≡ lookup (leaves (now (table .entry))) (eax (now (c .entry))) (ecx (now (c .entry)))
+        (resultRegister (now (c .entry))) ⌝ }
 {
     let eax = numbers::little4(c, 20);
     let ecx = numbers::little4(c, 16);

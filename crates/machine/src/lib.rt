@@ -121,7 +121,9 @@ pub fn take_piece(
     memory: &mut [u8],
 ) -> Machine
     requires { ⌜ Ready size (now map) (now table) mode (length (now memory)) (machineOf m) ⌝ }
-    ensures { λ r. ⌜ (machineOf r ≡ spec.run (jobOf size (now (map .entry)) (now (table .entry)) mode) (machineOf m) (now (piece .entry))) × (now (memory .exit) ≡ applied (regions (now (map .entry))) (now (memory .entry)) (spec.trace (jobOf size (now (map .entry)) (now (table .entry)) mode) (machineOf m) (now (piece .entry)))) ⌝ }
+    ensures { λ r. ⌜ (machineOf r ≡ spec.run (jobOf size (now (map .entry)) (now (table .entry)) mode) (machineOf m) (now (piece .entry)))
+        × (now (memory .exit) ≡ applied (regions (now (map .entry))) (now (memory .entry))
+        (spec.trace (jobOf size (now (map .entry)) (now (table .entry)) mode) (machineOf m) (now (piece .entry)))) ⌝ }
 {
     let phase = m.phase;
     let tally = m.tally;

@@ -154,7 +154,8 @@ pub fn finished(c: Control, size: u64) -> Control
 // The bytes are used: kept behind those held.
 pub fn kept_all(c: Control, held: &mut [u8], bytes: &[u8]) -> Control
     requires { ⌜ (c .kept + length (now bytes) ≤ length (now held)) × (c .next + length (now bytes) < 2 ^ 64) ⌝ }
-    ensures { λ r. ⌜ (stateOf r (now (held .exit)) ≡ keptAll (now (bytes .entry)) (stateOf c (now (held .entry)))) × (r .kept ≡ c .kept + length (now (bytes .entry))) ⌝ }
+    ensures { λ r. ⌜ (stateOf r (now (held .exit)) ≡ keptAll (now (bytes .entry)) (stateOf c (now (held .entry))))
+        × (r .kept ≡ c .kept + length (now (bytes .entry))) ⌝ }
 {
     let kept = c.kept;
     parts::copy(held, kept, bytes);
@@ -231,7 +232,8 @@ pub fn passed(c: Control, k: Command, n: u64, size: u64) -> Control
 // A header is judged when its 16 bytes are there.
 pub fn header_read(c: Control, held: &[u8], size: u64) -> Control
     requires { ⌜ (c .kept ≡ 16) × (length (now held) ≡ 104) × Roomy c size ⌝ }
-    ensures { λ r. ⌜ ((unit : Board) → spec.headerRead (jobOn unit size) (stateOf c (now (held .entry))) ≡ spec.still (stateOf r (now (held .entry)))) ⌝ }
+    ensures { λ r. ⌜ ((unit : Board) → spec.headerRead (jobOn unit size) (stateOf c (now (held .entry)))
+        ≡ spec.still (stateOf r (now (held .entry)))) ⌝ }
 {
     let k = commands::command_of(numbers::little2(held, 0));
     let n = numbers::little8(held, 8);
@@ -244,8 +246,10 @@ pub fn header_read(c: Control, held: &[u8], size: u64) -> Control
 
 // A write's address is judged over its whole range.
 pub fn write_read(c: Control, held: &[u8], size: u64, map: &[u8], mode: u64) -> Control
-    requires { ⌜ (c .kept ≡ 24) × (length (now held) ≡ 104) × Roomy c size × (8 ≤ dataLength (stateOf c (now held) .held)) × (ordered 0 (regions (now map)) ≡ true) ⌝ }
-    ensures { λ r. ⌜ ((table : List ℕ) → spec.writeRead (jobOf size (now (map .entry)) table mode) (stateOf c (now (held .entry))) ≡ spec.still (stateOf r (now (held .entry)))) ⌝ }
+    requires { ⌜ (c .kept ≡ 24) × (length (now held) ≡ 104) × Roomy c size × (8 ≤ dataLength (stateOf c (now held) .held))
+        × (ordered 0 (regions (now map)) ≡ true) ⌝ }
+    ensures { λ r. ⌜ ((table : List ℕ) → spec.writeRead (jobOf size (now (map .entry)) table mode) (stateOf c (now (held .entry)))
+        ≡ spec.still (stateOf r (now (held .entry)))) ⌝ }
 {
     let left = numbers::little8(held, 8) - 8;
     let address = numbers::little8(held, 16);
@@ -261,7 +265,8 @@ pub fn write_read(c: Control, held: &[u8], size: u64, map: &[u8], mode: u64) -> 
 
 pub fn entry_read(c: Control, held: &[u8], size: u64, mode: u64) -> Control
     requires { ⌜ (c .kept ≡ 24) × (length (now held) ≡ 104) × Roomy c size ⌝ }
-    ensures { λ r. ⌜ ((map table : List ℕ) → spec.entryRead (jobOf size map table mode) (stateOf c (now (held .entry))) ≡ spec.still (stateOf r (now (held .entry)))) ⌝ }
+    ensures { λ r. ⌜ ((map table : List ℕ) → spec.entryRead (jobOf size map table mode) (stateOf c (now (held .entry)))
+        ≡ spec.still (stateOf r (now (held .entry)))) ⌝ }
 {
     let address = numbers::little8(held, 16);
     let code = commands::entry_code(mode, address);
@@ -273,7 +278,9 @@ pub fn entry_read(c: Control, held: &[u8], size: u64, mode: u64) -> Control
 
 pub fn check_read(c: Control, held: &[u8], size: u64, table: &[u8]) -> Control
     requires { ⌜ (c .kept ≡ 104) × (length (now held) ≡ 104) × Roomy c size ⌝ }
-    ensures { λ r. ⌜ ((map : List ℕ) (mode : ℕ) → spec.checkRead (jobOf size map (now (table .entry)) mode) (stateOf c (now (held .entry))) ≡ spec.still (stateOf r (now (held .entry)))) ⌝ }
+    ensures { λ r. ⌜ ((map : List ℕ) (mode : ℕ)
+        → spec.checkRead (jobOf size map (now (table .entry)) mode) (stateOf c (now (held .entry)))
+        ≡ spec.still (stateOf r (now (held .entry)))) ⌝ }
 {
     let code = commands::check_code(held, table);
     if code != codes::DONE {
@@ -292,7 +299,9 @@ pub fn fill_read(
     memory: &mut [u8],
 ) -> Control
     requires { ⌜ (c .kept ≡ 40) × (length (now held) ≡ 104) × Roomy c size × Lent (now map) (length (now memory)) ⌝ }
-    ensures { λ r. ⌜ ((table : List ℕ) → Done (spec.fillRead (jobOf size (now (map .entry)) table mode) (stateOf c (now (held .entry)))) (stateOf r (now (held .entry))) (regions (now (map .entry))) (now (memory .entry)) (now (memory .exit))) ⌝ }
+    ensures { λ r. ⌜ ((table : List ℕ) → Done (spec.fillRead (jobOf size (now (map .entry)) table mode)
+        (stateOf c (now (held .entry)))) (stateOf r (now (held .entry))) (regions (now (map .entry))) (now (memory .entry))
+        (now (memory .exit))) ⌝ }
 {
     let address = numbers::little8(held, 16);
     let n = numbers::little8(held, 24);
@@ -315,8 +324,11 @@ pub fn parameters_read(
     mode: u64,
     memory: &mut [u8],
 ) -> Control
-    requires { ⌜ (c .phase ≡ Phase.Parameters) × (length (now held) ≡ 104) × Gathered c (now held) × Roomy c size × Lent (now map) (length (now memory)) ⌝ }
-    ensures { λ r. ⌜ Done (spec.parametersRead (jobOf size (now (map .entry)) (now (table .entry)) mode) (commandOf (stateOf c (now (held .entry)) .held)) (stateOf c (now (held .entry)))) (stateOf r (now (held .entry))) (regions (now (map .entry))) (now (memory .entry)) (now (memory .exit)) ⌝ }
+    requires { ⌜ (c .phase ≡ Phase.Parameters) × (length (now held) ≡ 104) × Gathered c (now held) × Roomy c size
+        × Lent (now map) (length (now memory)) ⌝ }
+    ensures { λ r. ⌜ Done (spec.parametersRead (jobOf size (now (map .entry)) (now (table .entry)) mode)
+        (commandOf (stateOf c (now (held .entry)) .held)) (stateOf c (now (held .entry)))) (stateOf r (now (held .entry)))
+        (regions (now (map .entry))) (now (memory .entry)) (now (memory .exit)) ⌝ }
 {
     let k = commands::command_of(numbers::little2(held, 0));
     match k {
@@ -340,7 +352,9 @@ pub fn read(
     memory: &mut [u8],
 ) -> Control
     requires { ⌜ (length (now held) ≡ 104) × Gathered c (now held) × Roomy c size × Lent (now map) (length (now memory)) ⌝ }
-    ensures { λ r. ⌜ Done (reads (c .phase) (jobOf size (now (map .entry)) (now (table .entry)) mode) (stateOf c (now (held .entry)))) (stateOf r (now (held .entry))) (regions (now (map .entry))) (now (memory .entry)) (now (memory .exit)) ⌝ }
+    ensures { λ r. ⌜ Done (reads (c .phase) (jobOf size (now (map .entry)) (now (table .entry)) mode)
+        (stateOf c (now (held .entry)))) (stateOf r (now (held .entry))) (regions (now (map .entry))) (now (memory .entry))
+        (now (memory .exit)) ⌝ }
 {
     let phase = c.phase;
     match phase {

@@ -34,7 +34,9 @@ pub fn run_piece(
     memory: &mut [u8],
 ) -> Control
     requires { ⌜ (length (now held) ≡ 104) × Ready size (now map) (now table) mode (length (now memory)) (stateOf c (now held)) ⌝ }
-    ensures { λ r. ⌜ Done (over (jobOf size (now (map .entry)) (now (table .entry)) mode) (stateOf c (now (held .entry))) (now (piece .entry))) (stateOf r (now (held .exit))) (regions (now (map .entry))) (now (memory .entry)) (now (memory .exit)) ⌝ }
+    ensures { λ r. ⌜ Done (over (jobOf size (now (map .entry)) (now (table .entry)) mode) (stateOf c (now (held .entry)))
+        (now (piece .entry))) (stateOf r (now (held .exit))) (regions (now (map .entry))) (now (memory .entry))
+        (now (memory .exit)) ⌝ }
 {
     let mut s = c;
     let mut at = 0;
@@ -87,8 +89,11 @@ pub fn turn(
     mode: u64,
     memory: &mut [u8],
 ) -> Taken
-    requires { ⌜ (0 < length (now rest)) × (length (now held) ≡ 104) × Ready size (now map) (now table) mode (length (now memory)) (stateOf c (now held)) ⌝ }
-    ensures { λ r. ⌜ Used (jobOf size (now (map .entry)) (now (table .entry)) mode) (stateOf c (now (held .entry))) (now (rest .entry)) (r .used) (stateOf (r .control) (now (held .exit))) (regions (now (map .entry))) (now (memory .entry)) (now (memory .exit)) ⌝ }
+    requires { ⌜ (0 < length (now rest)) × (length (now held) ≡ 104)
+        × Ready size (now map) (now table) mode (length (now memory)) (stateOf c (now held)) ⌝ }
+    ensures { λ r. ⌜ Used (jobOf size (now (map .entry)) (now (table .entry)) mode) (stateOf c (now (held .entry)))
+        (now (rest .entry)) (r .used) (stateOf (r .control) (now (held .exit))) (regions (now (map .entry))) (now (memory .entry))
+        (now (memory .exit)) ⌝ }
 {
     let phase = c.phase;
     let kept = c.kept;
@@ -138,8 +143,12 @@ fn gathered(
     mode: u64,
     memory: &mut [u8],
 ) -> Taken
-    requires { ⌜ (0 < length (now rest)) × (length (now held) ≡ 104) × Ready size (now map) (now table) mode (length (now memory)) (stateOf c (now held)) × (all ≡ code.wanted (c .phase) (stateOf c (now held) .held)) × (0 < all) ⌝ }
-    ensures { λ r. ⌜ Used (jobOf size (now (map .entry)) (now (table .entry)) mode) (stateOf c (now (held .entry))) (now (rest .entry)) (r .used) (stateOf (r .control) (now (held .exit))) (regions (now (map .entry))) (now (memory .entry)) (now (memory .exit)) ⌝ }
+    requires { ⌜ (0 < length (now rest)) × (length (now held) ≡ 104)
+        × Ready size (now map) (now table) mode (length (now memory)) (stateOf c (now held))
+        × (all ≡ code.wanted (c .phase) (stateOf c (now held) .held)) × (0 < all) ⌝ }
+    ensures { λ r. ⌜ Used (jobOf size (now (map .entry)) (now (table .entry)) mode) (stateOf c (now (held .entry)))
+        (now (rest .entry)) (r .used) (stateOf (r .control) (now (held .exit))) (regions (now (map .entry))) (now (memory .entry))
+        (now (memory .exit)) ⌝ }
 {
     let kept = c.kept;
     let n = fewer((all - kept) as u64, rest.len());
@@ -164,8 +173,12 @@ fn stored(
     map: &[u8],
     memory: &mut [u8],
 ) -> Control
-    requires { ⌜ (c .phase ≡ Phase.Storing address left) × (0 < length (now bytes)) × (length (now bytes) ≤ left) × (c .next + left ≤ size) × (size ≤ 2 ^ 30) × (address + left < 2 ^ 64) × Roomy c size × Lent (now map) (length (now memory)) × (ram (regions (now map)) address left ≡ true) ⌝ }
-    ensures { λ r. ⌜ ((table h : List ℕ) (mode : ℕ) → Done (over (jobOf size (now (map .entry)) table mode) (stateOf c h) (now (bytes .entry))) (stateOf r h) (regions (now (map .entry))) (now (memory .entry)) (now (memory .exit))) ⌝ }
+    requires { ⌜ (c .phase ≡ Phase.Storing address left) × (0 < length (now bytes)) × (length (now bytes) ≤ left)
+        × (c .next + left ≤ size) × (size ≤ 2 ^ 30) × (address + left < 2 ^ 64) × Roomy c size
+        × Lent (now map) (length (now memory)) × (ram (regions (now map)) address left ≡ true) ⌝ }
+    ensures { λ r. ⌜ ((table h : List ℕ) (mode : ℕ)
+        → Done (over (jobOf size (now (map .entry)) table mode) (stateOf c h) (now (bytes .entry))) (stateOf r h)
+        (regions (now (map .entry))) (now (memory .entry)) (now (memory .exit))) ⌝ }
 {
     let n = bytes.len() as u64;
     let at = map::offset(map, address);
@@ -187,7 +200,8 @@ fn stored(
 // n bytes of a skipped command's data do nothing.
 fn skipped(c: Control, left: u64, n: u64, size: u64) -> Control
     requires { ⌜ (n ≤ left) × (c .next + left ≤ size) × Roomy c size ⌝ }
-    ensures { λ r. ⌜ ((unit : Board) → code.Steps c r (code.landed (code.jobOn unit size) (eqb left n) (Phase.Skipping (left - n)) (c .next + n) (c .tally))) ⌝ }
+    ensures { λ r. ⌜ ((unit : Board) → code.Steps c r
+        (code.landed (code.jobOn unit size) (eqb left n) (Phase.Skipping (left - n)) (c .next + n) (c .tally))) ⌝ }
 {
     let tally = c.tally;
     steps::landed(c, n, left, Phase::Skipping { left: left - n }, tally, size)

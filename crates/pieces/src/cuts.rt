@@ -113,7 +113,8 @@ fn piece(
     memory: &mut [u8],
 ) -> Machine
     requires { ⌜ Ready (length (now file)) (now map) (now table) 64 (length (now memory)) (machineOf m) ⌝ }
-    ensures { λ r. ⌜ Ready (length (now (file .entry))) (now (map .entry)) (now (table .entry)) 64 (length (now (memory .entry))) (machineOf r) ⌝ }
+    ensures { λ r. ⌜ Ready (length (now (file .entry))) (now (map .entry)) (now (table .entry)) 64 (length (now (memory .entry)))
+        (machineOf r) ⌝ }
 {
     if to < at {
         return m;

@@ -45,7 +45,12 @@ pub extern "C" fn runnelpin_pack(
     signature_length: u64,
     output: &mut [u8],
 ) -> u64
-    ensures { λ r. ⌜ packed (record { file = now (file .entry); ids = id1 ∷ id2 ∷ id3 ∷ id4 ∷ []; blockSize = «block_size»; signature = «signature_length» }) (now (output .entry))
+    ensures { λ r. ⌜ packed (record {
+      file = now (file .entry);
+      ids = id1 ∷ id2 ∷ id3 ∷ id4 ∷ [];
+      blockSize = «block_size»;
+      signature = «signature_length»;
+    }) (now (output .entry))
         ≡ record { code = r; output = now (output .exit) } ⌝ }
 {
     chain::pack::pack(
@@ -105,7 +110,14 @@ pub extern "C" fn runnelpin_load(
     memory: &mut [u8],
     answer: &mut [u8],
 ) -> u64
-    ensures { λ r. ⌜ loaded (record { image = now (image .entry); approved = now (header .entry); map = now (map .entry); table = now (cpuid .entry); mode = mode; expected = «signature_length» })
+    ensures { λ r. ⌜ loaded (record {
+      image = now (image .entry);
+      approved = now (header .entry);
+      map = now (map .entry);
+      table = now (cpuid .entry);
+      mode = mode;
+      expected = «signature_length»;
+    })
         (now (memory .entry)) (now (answer .entry))
         ≡ record { code = r; answer = now (answer .exit); lent = now (memory .exit) } ⌝ }
 {
