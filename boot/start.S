@@ -27,6 +27,7 @@ pvh_start:
         xor     %eax, %eax              # no multiboot2 magic
 start:  cli
         cld
+        lidt    no_handlers             # the boot loader's are not for long mode
         mov     %eax, %esi              # kept for boot(): the magic, and where the loader's information is
         mov     %ebx, %ebp
 
@@ -85,6 +86,9 @@ gdt:    .quad   0, 0x00af9a000000ffff   # code of long mode
 gdt_pointer:
         .short  . - gdt - 1
         .long   gdt
+no_handlers:
+        .short  0
+        .long   0
 
         .bss
         .balign PAGE
