@@ -12,9 +12,12 @@
 #define WINDOW_SLOT 1
 #define WINDOW_BASE 0x8000000000
 
-/* The most that is lent: a multiple of 2 MiB, and at most 4 GiB, which is what the loader takes. */
+/* The most that is lent: whole page tables, of 2 MiB each, and no more than the loader takes. */
 #ifndef LENDING_LIMIT
 #define LENDING_LIMIT 0x100000000
+#endif
+#if LENDING_LIMIT % LARGE_PAGE || LENDING_LIMIT < LARGE_PAGE || LENDING_LIMIT > 0x100000000
+#error "LENDING_LIMIT: a multiple of 2 MiB, and at most 4 GiB"
 #endif
 
 /* Bits of a page table's entry. */

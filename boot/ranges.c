@@ -33,7 +33,7 @@ void add_range(struct ranges *ranges, uint64_t base, uint64_t length, int usable
     range->base = usable ? page_up(base) : page_down(base);
     range->end = usable ? page_down(base + length) : page_up(base + length);
     range->usable = usable;
-    if (range->base < range->end)
+    if (length && range->base < range->end)
         ranges->count++;
 }
 

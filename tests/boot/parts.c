@@ -43,6 +43,7 @@ static const struct map_case map_cases[] = {
       { { 0x1000, 0x2000 }, { GIB, 5 * GIB - 0x1000 } }, 2, GIB + 0x1000, 5 * GIB - 0x1000 },
     { "past the identity mapping", { { 16 * GIB - 0x1000, 0x3000, 1 }, { 20 * GIB, 0x1000, 1 } }, 2,
       { { 16 * GIB - 0x1000, 16 * GIB } }, 1, 0x3000, 16 * GIB },
+    { "an empty range", { { 0x1000, 0x3000, 1 }, { 0x2800, 0, 0 } }, 2, { { 0x1000, 0x4000 } }, 1, 0, 0 },
     { "lengths that wrap", { { 0x1000, 0x4000, 1 }, { 0x3000, UINT64_MAX, 0 }, { UINT64_MAX - 1, UINT64_MAX, 1 } }, 3,
       { { 0x1000, 0x3000 } }, 1, 0, 0 },
 };
