@@ -150,13 +150,41 @@ echo >>signings
 head -c $((300 + $(wc -l <signings))) /dev/zero >\"$out\"
 ";
 
+/// A sleep that only leaves a trace.
+const SLEEP: &str = "#!/bin/sh
+echo >>seconds
+";
+
 #[test]
 fn signing_gives_up_after_20_signatures() {
     let desk = sample::desk();
     put_command(&desk, "gpg", RESTLESS);
+    put_command(&desk, "sleep", SLEEP);
     let said = script(&desk, "sign", &["key", "file", "signed"]);
     assert!(said.status == 1 && !desk.has("signed"), "{said:?}");
     assert_eq!(desk.get("signings").len(), 20);
+}
+
+/// A gpg with an RSA key, in a second in which a header that says 310 bytes gets a signature of 309.
+const UNLUCKY: &str = "#!/bin/sh
+[ \"$2\" = --list-packets ] && echo 'algo 1,' && exit
+while [ $# -gt 1 ]; do [ \"$1\" = --output ] && out=$2; shift; done
+says=$(od -An -tu4 -j 12 -N 4 \"$1\")
+[ -e seconds ] || [ $says -ne 310 ] && made=310 || made=309
+head -c $made /dev/zero >\"$out\"
+";
+
+#[test]
+fn a_signature_that_comes_out_short_is_made_in_another_second() {
+    let desk = sample::desk();
+    put_command(&desk, "gpg", UNLUCKY);
+    put_command(&desk, "sleep", SLEEP);
+    let said = script(&desk, "sign", &["key", "file", "signed"]);
+    assert_eq!(said.status, 0, "{said:?}");
+    assert!(
+        said.out.ends_with("the signature has 310 bytes\n"),
+        "{said:?}"
+    );
 }
 
 #[test]
