@@ -50,6 +50,10 @@ static struct slice take(uint32_t magic, uint64_t info)
 static void find_memory(void)
 {
     uint64_t begin = (uint64_t)(uintptr_t)stub_begin, length = (uint64_t)(stub_end - stub_begin);
+
+    /* Not every boot loader looks. What is written past the end of RAM reads as zeros, the answer 0 among them. */
+    if (!is_all_usable(&handed.ranges, begin, begin + length))
+        refuse(END_ROOM, "too little RAM for the stub itself");
     add_range(&handed.ranges, 0, PAGE, 0);
     add_range(&handed.ranges, begin, length, 0);
     add_range(&handed.ranges, (uint64_t)(uintptr_t)handed.image.at, handed.image.length, 0);

@@ -75,6 +75,17 @@ static uint64_t up_to(const struct ranges *ranges, uint64_t base, uint64_t end)
     return end;
 }
 
+int is_all_usable(const struct ranges *ranges, uint64_t base, uint64_t end)
+{
+    while (base < end) {
+        struct range next = next_usable(ranges, base);
+        if (next.base != base || behind(ranges, base) != base)
+            return 0;
+        base = up_to(ranges, base, next.end);
+    }
+    return 1;
+}
+
 static void leave_out(struct regions *regions, uint64_t base, uint64_t end)
 {
     if (base >= end)

@@ -69,6 +69,22 @@ static void try_map(const struct map_case *c)
     is(c->what, regions.left_out_from, c->left_out_from);
 }
 
+/* Usable is from 0x1000 to 0x9000, but for the page at 0x6000. */
+static void try_usable(void)
+{
+    static struct ranges ranges;
+
+    add_range(&ranges, 0x4000, 0x5000, 1);
+    add_range(&ranges, 0x1000, 0x4000, 1);
+    add_range(&ranges, 0x6800, 1, 0);
+    is("usable over two ranges", (uint64_t)is_all_usable(&ranges, 0x1000, 0x6000), 1);
+    is("usable up to the end", (uint64_t)is_all_usable(&ranges, 0x7000, 0x9000), 1);
+    is("usable, and a page before", (uint64_t)is_all_usable(&ranges, 0, 0x2000), 0);
+    is("usable, and a page behind", (uint64_t)is_all_usable(&ranges, 0x8000, 0xa000), 0);
+    is("usable, and not at first", (uint64_t)is_all_usable(&ranges, 0x6000, 0x8000), 0);
+    is("usable, and not at last", (uint64_t)is_all_usable(&ranges, 0x5000, 0x7000), 0);
+}
+
 static void try_many(void)
 {
     static struct ranges ranges;
@@ -171,6 +187,7 @@ int main(void)
 {
     for (size_t i = 0; i < sizeof map_cases / sizeof *map_cases; i++)
         try_map(&map_cases[i]);
+    try_usable();
     try_many();
     try_approved();
     try_multiboot2();
