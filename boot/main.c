@@ -50,13 +50,16 @@ static struct slice take(uint32_t magic, uint64_t info)
 static void find_memory(void)
 {
     uint64_t begin = (uint64_t)(uintptr_t)stub_begin, length = (uint64_t)(stub_end - stub_begin);
+    uint64_t image = (uint64_t)(uintptr_t)handed.image.at;
 
     /* Not every boot loader looks. What is written past the end of RAM reads as zeros, the answer 0 among them. */
-    if (!is_all_usable(&handed.ranges, begin, begin + length))
+    if (!is_all_usable(&handed.ranges, begin, length))
         refuse(END_ROOM, "too little RAM for the stub itself");
     add_range(&handed.ranges, 0, PAGE, 0);
     add_range(&handed.ranges, begin, length, 0);
-    add_range(&handed.ranges, (uint64_t)(uintptr_t)handed.image.at, handed.image.length, 0);
+    if (!is_all_usable(&handed.ranges, image, handed.image.length))
+        refuse(END_ROOM, "no RAM of its own for the image");
+    add_range(&handed.ranges, image, handed.image.length, 0);
     if (handed.ranges.overflowed)
         refuse(END_RANGES, "the memory map is too long");
     find_regions(&handed.ranges, &regions);

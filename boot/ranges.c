@@ -75,8 +75,11 @@ static uint64_t up_to(const struct ranges *ranges, uint64_t base, uint64_t end)
     return end;
 }
 
-int is_all_usable(const struct ranges *ranges, uint64_t base, uint64_t end)
+int is_all_usable(const struct ranges *ranges, uint64_t base, uint64_t length)
 {
+    uint64_t end = base + length;
+
+    base = page_down(base);
     while (base < end) {
         struct range next = next_usable(ranges, base);
         if (next.base != base || behind(ranges, base) != base)

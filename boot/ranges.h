@@ -22,8 +22,8 @@ struct ranges {
 /* Adds `length` bytes from `base` on, as far as the loader's addresses reach. */
 void add_range(struct ranges *ranges, uint64_t base, uint64_t length, int usable);
 
-/* Whether the pages from `base` to `end` are all usable, and in no other range. */
-int is_all_usable(const struct ranges *ranges, uint64_t base, uint64_t end);
+/* Whether all pages with these bytes are usable, and in no other range. */
+int is_all_usable(const struct ranges *ranges, uint64_t base, uint64_t length);
 
 /* The map, and how much RAM is left out of it. */
 struct regions {

@@ -77,12 +77,15 @@ static void try_usable(void)
     add_range(&ranges, 0x4000, 0x5000, 1);
     add_range(&ranges, 0x1000, 0x4000, 1);
     add_range(&ranges, 0x6800, 1, 0);
-    is("usable over two ranges", (uint64_t)is_all_usable(&ranges, 0x1000, 0x6000), 1);
-    is("usable up to the end", (uint64_t)is_all_usable(&ranges, 0x7000, 0x9000), 1);
+    is("usable over two ranges", (uint64_t)is_all_usable(&ranges, 0x1000, 0x5000), 1);
+    is("usable up to the end", (uint64_t)is_all_usable(&ranges, 0x7000, 0x2000), 1);
     is("usable, and a page before", (uint64_t)is_all_usable(&ranges, 0, 0x2000), 0);
-    is("usable, and a page behind", (uint64_t)is_all_usable(&ranges, 0x8000, 0xa000), 0);
-    is("usable, and not at first", (uint64_t)is_all_usable(&ranges, 0x6000, 0x8000), 0);
-    is("usable, and not at last", (uint64_t)is_all_usable(&ranges, 0x5000, 0x7000), 0);
+    is("usable, and a page behind", (uint64_t)is_all_usable(&ranges, 0x8000, 0x2000), 0);
+    is("usable, and not at first", (uint64_t)is_all_usable(&ranges, 0x6000, 0x2000), 0);
+    is("usable, and in parts of pages", (uint64_t)is_all_usable(&ranges, 0x5fff, 1), 1);
+    is("usable but for a page's part", (uint64_t)is_all_usable(&ranges, 0x5fff, 2), 0);
+    is("usable, behind a page's part", (uint64_t)is_all_usable(&ranges, 0x6fff, 2), 0);
+    is("usable, and not at last", (uint64_t)is_all_usable(&ranges, 0x5000, 0x2000), 0);
 }
 
 static void try_many(void)
