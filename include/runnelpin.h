@@ -17,8 +17,8 @@ extern "C" {
  *
  * The calls are for x86-64 and the System V convention. They use general registers, flags and xmm0 to
  * xmm15, so SSE2 is on, and the 128 bytes below the stack pointer, so interrupts are off or handled on
- * another stack. They keep no data between calls and want memcpy and memset, nothing else. How much
- * stack each takes stands in docs/STUB.md.
+ * another stack. No call takes more than 4 KiB of stack; what each takes stands in docs/STUB.md. They
+ * keep no data between calls and want memcpy and memset, nothing else.
  */
 enum {
     RUNNELPIN_DONE = 0,
