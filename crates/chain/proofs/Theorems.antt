@@ -142,7 +142,7 @@ begins-or-collide d block block′ n n′ h =
     ∙ sym e))
     inr (streams d block block′ n n′ m (omega arith) h)
 
--- 7. Two results that the promise of a call allows are equal: open
+-- 7. Two results that the promise of a call allows are equal: open,
 pub open-determined : (image approved : List ℕ) (signature : ℕ) (output held : List ℕ) (x y : Outcome)
     → opened image approved signature output held ≡ x → opened image approved signature output held ≡ y
     → (x .code ≡ y .code) × (x .answer ≡ y .answer) × (x .lent ≡ y .lent)
@@ -150,12 +150,17 @@ open-determined image approved signature output held x y p q =
     let e : x ≡ y = sym p ∙ q in
     (ap (λ (o : Outcome). o .code) e, ap (λ (o : Outcome). o .answer) e, ap (λ (o : Outcome). o .lent) e)
 
--- and pack.
+-- pack,
 pub pack-determined : (p : Order) (output : List ℕ) (x y : Packed) → packed p output ≡ x → packed p output ≡ y
     → (x .code ≡ y .code) × (x .output ≡ y .output)
 pack-determined p output x y e f =
     let g : x ≡ y = sym e ∙ f in
     (ap (λ (o : Packed). o .code) g, ap (λ (o : Packed). o .output) g)
+
+-- and the signature field.
+pub signature-determined : (image approved : List ℕ) (signature : ℕ) (x y : List ℕ)
+    → signatureField image approved signature ≡ x → signatureField image approved signature ≡ y → x ≡ y
+signature-determined image approved signature x y e q = sym e ∙ q
 
 -- 8. The signature field of an image as a part of it: where open would give 1 or 4 to 12 the part is empty;
 pub signature-empty : (image approved : List ℕ) (signature : ℕ) (output held : List ℕ) → length held ≡ 40

@@ -12,6 +12,7 @@ unfoldable pub hashsum : List ℕ → List ℕ → List ℕ
 hashsum [] bytes = []
 hashsum (id ∷ ids) bytes = digest id bytes ++ hashsum ids bytes
 
+-- its length
 unfoldable pub sumLength : List ℕ → ℕ
 sumLength [] = 0
 sumLength (id ∷ ids) = digestLength id + sumLength ids

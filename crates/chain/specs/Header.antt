@@ -9,6 +9,7 @@ use Rattle.octets.specs.Parts.{part, same}
 use Rattle.answers.specs.Rules.{Rule, rule, signatureRules, sizeRules}
 use Rattle.chain.specs.Hashsum.{sumLength, idRules}
 
+-- the fields by name, and the root hash behind them
 pub record Header : Type 0 where
   pub magic : ℕ
   -- block count, block size, signature data length
@@ -39,6 +40,7 @@ headerOf h =
       root = drop 36 h;
     }
 
+-- the IDs one behind the other, two bytes each
 unfoldable pub idBytes : List ℕ → List ℕ
 idBytes [] = []
 idBytes (id ∷ ids) = littleBytes 2 id ++ idBytes ids

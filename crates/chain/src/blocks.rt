@@ -16,7 +16,8 @@ use crate::header::Header;
 use answers::codes;
 use octets::parts;
 
-// The code that block k gets, 0 where it passes: the header has the first one's hashsum, each block that of the next. Blocks are numbered from 0; a place is one more.
+// The code that block k gets, 0 where it passes: the header has the first one's hashsum, each block that of the next.
+// Blocks are numbered from 0; a place is one more.
 pub fn block_code(image: &[u8], approved: &[u8], k: u64) -> u64
     requires { ⌜ HasBlock (now image) (now approved) k ⌝ }
     ensures { λ r. ⌜ r ≡ spec.blockCode (headerOf (now (approved .entry))) (spec.blockOf (now (image .entry)) (now (approved .entry))) k ⌝ }

@@ -1,7 +1,7 @@
 -- What load is held to, each under the sentence that it carries (document 01).
 use mathlib.Core.Bool.{Bool, _&&_}
 use mathlib.Core.Path.{_≡_, refl, sym, ap, _∙_}
-use mathlib.Core.List.{List, [], _∷_, map}
+use mathlib.Core.List.{List, [], _∷_, map, List·Memᴰ, List·Memᴰ·not-nil}
 use mathlib.Core.Logic.{_⊎_, inl, inr, _≢_}
 use Prim.Native.Nat.{ℕ, suc, _+_, _≤_, _<_}
 use native.Mathlib.Omega.{arith}
@@ -12,7 +12,8 @@ use Rattle.answers.specs.Answers.{Outcome, refused, recordBytes}
 use Rattle.answers.specs.Rules.{pick, firstBroken}
 use Rattle.answers.specs.declared.Answer.{Answer}
 use Rattle.answers.proofs.RecordLaws.{answered-alike}
-use Rattle.board.specs.Map.{regions}
+use Rattle.board.specs.Map.{regions, limit}
+use Rattle.board.proofs.MapLaws.{Covered}
 use Rattle.chain.specs.Blocks.{blockOf, blockCode, fileUpTo}
 use Rattle.chain.specs.Hashsum.{sumLength}
 use Rattle.chain.specs.Header.{headerOf, headerSizeFor, fileLength}
@@ -26,7 +27,7 @@ use Rattle.machine.specs.Machine.{Store, begun, run, trace, answerWith}
 use Rattle.machine.specs.Memory.{applied}
 use Rattle.machine.specs.declared.Phase.the-variants.{Stopped}
 use Rattle.machine.proofs.Standing.{Ended, at-end, at-magic, at-command, Running, pick-cases}
-use Rattle.machine.proofs.Theorems.{stored-counts-stores}
+use Rattle.machine.proofs.Theorems.{store-inside, stored-counts-stores}
 use Rattle.loader.proofs.Calls.{file, open-gives, loads-as-bare, openTells, StopsAt, stops-at, RefusedEarlier, ArgumentsTaken, stop-agrees, headerCodes, header-agrees}
 use Rattle.loader.proofs.Calls as calls
 use Rattle.loader.proofs.Cases as codes
@@ -43,12 +44,16 @@ provedBytes o = fileUpTo (header o) (block o) (provedBlocks o)
 
 -- ---- 1. Demand 1: refusals
 
--- found before the first command: 1 to 12, and 16
+none : (xs : List Store) → length xs ≡ 0 → xs ≡ []
+none [] e = refl
+none (x ∷ xs) e = absurd (omega (arith, e))
+
+-- codes that are found before the first command: 1 to 12, and 16
 abbrev pub Early : ℕ → Type 0
 Early c = ((1 ≤ c) × (c ≤ 12)) ⊎ (c ≡ 16)
 
 module _ (o : Offer) where
-  -- A refusal found before the first command changes no byte of memory.
+  -- A refusal by one of these changes no byte of memory.
   pub early-refusals-keep-memory : (memory held : List ℕ) → Early (loaded o memory held .code) → loaded o memory held .lent ≡ memory
   unfolding applied
   early-refusals-keep-memory memory held =
@@ -60,10 +65,6 @@ module _ (o : Offer) where
       (λ t s r l u n. absurd (not-early (badCode o) l u n)))
       (λ e n. refl))
     where
-      none : (xs : List Store) → length xs ≡ 0 → xs ≡ []
-      none [] e = refl
-      none (x ∷ xs) e = absurd (omega (arith, e))
-
       not-early : (code : ℕ) → 13 ≤ code → code ≤ 15 → Early code → ⊥
       not-early code l u (inl n) = omega arith
       not-early code l u (inr n) = omega arith
@@ -87,6 +88,23 @@ module _ (o : Offer) where
       load-cases o (λ (a : Answer) (xs : List Store). a .stored ≡ length xs) memory (λ code l u. refl)
       (λ t code place e q. stored-counts-stores (job o) (provedBytes o))
       (λ t s r l u. stored-counts-stores (job o) (provedBytes o))
+
+  -- An answer that counts no store, as at a bad first block or where the first command is refused, changes no byte of memory.
+  pub nothing-stored-keeps-memory : (memory held : List ℕ) → length held ≡ 40 → answerMade o (length memory) .stored ≡ 0
+      → loaded o memory held .lent ≡ memory
+  unfolding applied
+  nothing-stored-keeps-memory memory held fits z =
+      memory-is-the-stores memory held fits
+      ∙ ap (applied (regions (o .map)) memory) (none (storesMade o (length memory)) (sym (record-counts-stores (length memory)) ∙ z))
+
+  -- Every store is at an address in a region of the map and below the mode's reach limit.
+  pub load-stores-inside : (memory : ℕ) (x : Store) → List·Memᴰ x (storesMade o memory)
+      → Covered (regions (o .map)) (x .address) × (x .address < limit (o .mode))
+  load-stores-inside memory x =
+      load-cases o (λ (a : Answer) (xs : List Store). List·Memᴰ x xs → Covered (regions (o .map)) (x .address) × (x .address < limit (o .mode))) memory
+      (λ code l u m. absurd (List·Memᴰ·not-nil m))
+      (λ t code place e q m. store-inside (job o) (provedBytes o) x m)
+      (λ t s r l u m. store-inside (job o) (provedBytes o) x m)
 
   -- On every refusal the entry is 0.
   pub refusal-has-no-entry : (memory : ℕ) → answerMade o memory .code ≢ 0 → answerMade o memory .entry ≡ 0

@@ -74,14 +74,14 @@ use Rattle.machine.specs.declared.Phase.the-variants.{Magic, Header, Par
 abbrev pub ReservedPlace : ℕ → Type 0
 ReservedPlace i = ((2 ≤ i) × (i < 8)) ⊎ ((33 ≤ i) × (i < 40))
 
--- the next byte is a reserved one
+-- the next byte is a reserved one, or one behind a stop, which nothing reads
 abbrev pub ReservedNext : Phase → ℕ → Type 0
 ReservedNext Magic n = ⊥
 ReservedNext Header n = ReservedPlace n
 ReservedNext Parameters n = ReservedPlace n
 ReservedNext (Storing a left) n = ⊥
 ReservedNext (Skipping left) n = ⊥
-ReservedNext (Stopped code place) n = ⊥
+ReservedNext (Stopped code place) n = Unit {0}
 
 -- two files that differ only in reserved bytes, along the run over the first
 abbrev pub Alike : Job → State → List ℕ → List ℕ → Type 0

@@ -123,6 +123,7 @@ passed job Fill n s = turnedTo Parameters s
 passed job Entry n s = turnedTo Parameters s
 passed job Check n s = turnedTo Parameters s
 passed job Skip n s = pick (eqb n 0) (finished job s) (turnedTo (Skipping n) s)
+-- does not come: it has not passed
 passed job Unknown n s = s
 
 unfoldable pub headerRead : Job → State → Turn
@@ -160,6 +161,7 @@ parametersRead job Write s = writeRead job s
 parametersRead job Fill s = fillRead job s
 parametersRead job Entry s = entryRead job s
 parametersRead job Check s = checkRead job s
+-- these do not come: they have no parameters
 parametersRead job Skip s = still s
 parametersRead job Unknown s = still s
 

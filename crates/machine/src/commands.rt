@@ -139,7 +139,7 @@ fn looked_up(c: &[u8], table: &[u8]) -> Found
     cpuid::lookup(table, eax, ecx, c[32] as u64)
 }
 
-// What is found is judged by: the value is not masked.
+// What a lookup's result is judged by; the value is not masked.
 fn found_code(found: Found, mask: u32, value: u32) -> u64
     ensures { λ r. ⌜ r ≡ foundCode found mask value ⌝ }
 {

@@ -289,7 +289,7 @@ pub fn check_read(c: Control, held: &[u8], size: u64, table: &[u8]) -> Control
     finished(c, size)
 }
 
-// A fill is stored as one block.
+// A fill is stored in one go.
 pub fn fill_read(
     c: Control,
     held: &[u8],

@@ -163,7 +163,7 @@ fn gathered(
     Taken { control, used: n }
 }
 
-// Bytes of a write's data are stored from its address on, as one block.
+// Bytes of a write's data are stored from its address on, in one copy.
 fn stored(
     c: Control,
     address: u64,

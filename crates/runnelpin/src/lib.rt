@@ -1,6 +1,5 @@
 // The calls that a boot stub in C makes: every number is 64 bits wide, a slice is a pointer and a length.
 ghost use mathlib.Core.List.{[], _∷_};
-ghost use mathlib.Core.List.{[], _∷_};
 ghost use mathlib.Core.Path.{_≡_};
 ghost use denote.Ref.{now};
 ghost use Rattle.octets.specs.Parts.{part};
@@ -8,7 +7,6 @@ ghost use Rattle.chain.specs.Open.{opened, signatureField};
 ghost use Rattle.chain.specs.Pack.{packed};
 ghost use Rattle.loader.specs.Load.{loaded};
 ghost use Rattle.machine.specs.Bare.{runBare};
-ghost use Rattle.chain.specs.Pack.{packed};
 ghost use Rattle.runnelpin.specs.Field.{fieldOf};
 
 // A part of a lent slice: its offset, and how many bytes it has.
