@@ -3,7 +3,7 @@
 help: ## print this
 	@sed -n 's/^\([a-z-]*\):.*## /make \1: /p' Makefile
 
-demo: ## the main job step by step, from the build to a refused image; wants nothing but the kit
+demo: ## the main job step by step, from the build to a refused image
 	@tools/demo
 
 test: ## everything from nothing: proofs, must-fail edits, Rust tests, comparisons; ends in 'N passed, M failed'

@@ -10,7 +10,9 @@ extern "C" {
 #endif
 
 /*
- * Every call answers every input: each checks all that it is given, and returns one of these codes.
+ * Every call answers every input: each checks all that it is given, and all but runnelpin_signature
+ * return one of these codes. `header` is the bytes that the security chip approved, never the image's
+ * own first bytes; `signature_length` is that of the chip's signatures, 1 to 4096.
  * A slice is a pointer and its length in bytes. It may lie at any address, without alignment, and
  * may be NULL where its length is 0. What a call writes to overlaps nothing else that is lent to it,
  * and nothing that is lent changes during the call. Image, header, map and table may overlap.
