@@ -1,6 +1,6 @@
 -- The memory map ("Where the addresses really are"): which maps are taken, which ranges are RAM and reachable,
 -- and which byte of the lent memory an address is.
-use mathlib.Core.Bool.{Bool, true, false, not}
+use mathlib.Core.Bool.{Bool, true, false, not, _||_}
 use mathlib.Core.List.{List, [], _∷_}
 use Prim.Native.Nat.{ℕ, _+_, _-_, _*_, _/_, _%_, _^_, min, max}
 use lib.Dec.{eqb, leb, ltb}
@@ -62,6 +62,10 @@ ram rs a n = leb (a + n) (uncovered rs a)
 unfoldable pub offset : List Region → ℕ → ℕ
 offset [] a = 0
 offset (r ∷ rs) a = min (r .size) (a - r .base) + offset rs a
+
+-- 1: mode is 32 or 64
+abbrev pub modeRules : ℕ → List Rule
+modeRules mode = rule 1 (not (eqb mode 32 || eqb mode 64)) ∷ []
 
 -- the reach limit of a mode, 32 or 64
 abbrev pub limit : ℕ → ℕ

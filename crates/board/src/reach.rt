@@ -1,5 +1,18 @@
 ghost use mathlib.Core.Path.{_≡_};
-ghost use Rattle.board.specs.Map.{limit, reachable};
+ghost use Rattle.answers.specs.Rules.{firstBroken};
+ghost use Rattle.board.specs.Map.{modeRules, limit, reachable};
+use answers::codes;
+
+// Mode is 32 or 64: 0, or the refusal.
+pub fn mode_code(mode: u64) -> u64
+    ensures { λ r. ⌜ r ≡ firstBroken (modeRules mode) ⌝ }
+{
+    match mode {
+        32 => codes::DONE,
+        64 => codes::DONE,
+        _ => codes::ARGUMENT,
+    }
+}
 
 // The reach limit of a mode.
 pub fn reach_limit(mode: u64) -> u64

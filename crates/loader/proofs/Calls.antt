@@ -14,7 +14,7 @@ use Rattle.answers.specs.Rules.{pick, Rule, rule, firstBroken, signatureRules, 
 use Rattle.answers.specs.declared.Answer.{Answer}
 use Rattle.answers.proofs.RuleLaws.{numbered, first-broken-append, zero-all-hold}
 use Rattle.board.specs.Cpuid.{tableRules}
-use Rattle.board.specs.Map.{regions, mapRules}
+use Rattle.board.specs.Map.{regions, mapRules, modeRules}
 use Rattle.chain.specs.Blocks.{blockCode, fileUpTo}
 use Rattle.chain.specs.Hashsum.{sumLength}
 use Rattle.chain.specs.Header.{fileLength, imageRules, streamRules}
@@ -26,7 +26,7 @@ use Rattle.chain.proofs.HeaderLaws.{Passed, stream-passed}
 use Rattle.chain.proofs.OpenLaws.{ButSignature, given, unwritten, refusing, proving, outcome, opened-is, outcome-zero, outcome-done}
 use Rattle.chain.proofs.RuleLaws.{both-hold}
 use Rattle.chain.proofs.Theorems.{open-of-pack}
-use Rattle.machine.specs.Bare.{modeRules, bareRules, jobOf, ranBare, runBare}
+use Rattle.machine.specs.Bare.{bareRules, jobOf, ranBare, runBare}
 use Rattle.machine.specs.Machine.{State, Store, begun, trace, answerWith, answerOr}
 use Rattle.machine.specs.Memory.{applied}
 use Rattle.machine.specs.declared.Phase.{Phase}

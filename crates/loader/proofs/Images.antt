@@ -13,13 +13,13 @@ use Rattle.answers.specs.Answers.{Outcome, answered, refused}
 use Rattle.answers.specs.Rules.{pick, Rule, rule, firstBroken, signatureRules, sizeRules}
 use Rattle.answers.specs.declared.Answer.{Answer}
 use Rattle.board.specs.Cpuid.{tableRules}
-use Rattle.board.specs.Map.{regions, mapRules}
+use Rattle.board.specs.Map.{regions, mapRules, modeRules}
 use Rattle.chain.specs.Blocks.{blockOf, blockCode, proved, fileUpTo}
 use Rattle.chain.specs.Header.{Header, headerOf, dataLength, fileLength, blocksStart, fieldRules}
 use Rattle.chain.proofs.BlockLaws.{Agree, proved-le, file-agrees, file-begins, length-file}
 use Rattle.chain.proofs.OpenLaws.{ButSignature, blocks-same}
 use Rattle.chain.proofs.StreamLaws.{Collision, streams}
-use Rattle.machine.specs.Bare.{modeRules, jobOf}
+use Rattle.machine.specs.Bare.{jobOf}
 use Rattle.machine.specs.Machine.{Job, State, Store, begun, run, trace, answerOr, answerWith}
 use Rattle.machine.specs.Memory.{applied}
 use Rattle.machine.specs.declared.Phase.the-variants.{Stopped}

@@ -15,14 +15,13 @@ use Rattle.answers.specs.Rules.{pick, firstBroken, signatureRules, sizeRules}
 use Rattle.answers.specs.declared.Answer.{Answer}
 use Rattle.answers.proofs.RuleLaws.{first-broken-has}
 use Rattle.board.specs.Cpuid.{tableRules}
-use Rattle.board.specs.Map.{regions, mapRules}
+use Rattle.board.specs.Map.{regions, mapRules, modeRules}
 use Rattle.chain.specs.Blocks.{blockRules, blockCode, expected, fileUpTo}
 use Rattle.chain.specs.Header.{dataLength, fileLength, blocksStart, imageRules}
 use Rattle.chain.proofs.BlockLaws.{proved-le, fails, length-file}
 use Rattle.chain.proofs.GivenCodes.{code-passes}
 use Rattle.chain.proofs.HeaderLaws.{Allowed, allowed, Passed, passed}
 use Rattle.chain.proofs.RuleLaws.{both-hold}
-use Rattle.machine.specs.Bare.{modeRules}
 use Rattle.machine.specs.Machine.{State, Store, answerWith, answerOr}
 use Rattle.machine.specs.Memory.{applied}
 use Rattle.machine.specs.declared.Phase.{Phase}

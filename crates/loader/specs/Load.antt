@@ -7,10 +7,10 @@ use Rattle.answers.specs.Answers.{Outcome, answered, refused}
 use Rattle.answers.specs.Rules.{pick, Rule, firstBroken, signatureRules, sizeRules}
 use Rattle.answers.specs.declared.Answer.{Answer}
 use Rattle.board.specs.Cpuid.{tableRules}
-use Rattle.board.specs.Map.{mapRules}
+use Rattle.board.specs.Map.{mapRules, modeRules}
 use Rattle.chain.specs.Blocks.{blockOf, blockCode, proved, fileUpTo}
 use Rattle.chain.specs.Header.{Header, headerOf, fileLength, imageRules}
-use Rattle.machine.specs.Bare.{modeRules, jobOf}
+use Rattle.machine.specs.Bare.{jobOf}
 use Rattle.machine.specs.Machine.{Job, State, Store, begun, run, trace, answerOr}
 use Rattle.machine.specs.Memory.{applied}
 

@@ -6,8 +6,7 @@ ghost use denote.Ref.{now};
 ghost use lib.ListN.{length};
 ghost use Rattle.answers.specs.Rules.{firstBroken, signatureRules, sizeRules};
 ghost use Rattle.board.specs.Cpuid.{tableRules};
-ghost use Rattle.board.specs.Map.{mapRules};
-ghost use Rattle.machine.specs.Bare.{modeRules};
+ghost use Rattle.board.specs.Map.{mapRules, modeRules};
 ghost use Rattle.loader.specs.Code.{Loadable, offerOf, BlocksLoaded, badAnswer};
 ghost use Rattle.loader.specs.Load.{loadRules, loaded};
 use answers::Answer;
@@ -15,10 +14,10 @@ use answers::codes;
 use answers::rules;
 use board::cpuid;
 use board::map;
+use board::reach;
 use chain::blocks;
 use chain::header;
 use machine::Machine;
-use machine::bare;
 
 // Loads an image: returns the code, and leaves the answer in the lent record and the stores in memory.
 pub fn load(
@@ -95,7 +94,7 @@ fn load_code(
 fn argument_code(mode: u64, expected: u64, size: u64) -> u64
     ensures { λ r. ⌜ r ≡ firstBroken (modeRules mode ++ signatureRules expected ++ sizeRules size) ⌝ }
 {
-    let first = bare::mode_code(mode);
+    let first = reach::mode_code(mode);
     if first != codes::DONE {
         return first;
     }

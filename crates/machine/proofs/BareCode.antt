@@ -12,8 +12,8 @@ use Rattle.answers.specs.Rules.{pick, Rule, firstBroken, sizeRules}
 use Rattle.answers.specs.declared.Answer.{Answer}
 use Rattle.answers.proofs.RuleLaws.{numbered, first-broken-append, zero-all-hold, all-hold-zero}
 use Rattle.board.specs.Cpuid.{tableRules}
-use Rattle.board.specs.Map.{mapRules, regions}
-use Rattle.machine.specs.Bare.{modeRules, bareRules, jobOf, ranBare, runBare}
+use Rattle.board.specs.Map.{mapRules, regions, modeRules}
+use Rattle.machine.specs.Bare.{bareRules, jobOf, ranBare, runBare}
 use Rattle.machine.specs.Code.{Ready}
 use Rattle.machine.specs.Machine.{State, begun, trace, answerOr}
 use Rattle.machine.specs.Memory.{applied}

@@ -14,9 +14,9 @@ use Rattle.answers.specs.Rules.{pick, Rule, firstBroken, sizeRules}
 use Rattle.answers.specs.declared.Answer.{Answer}
 use Rattle.answers.proofs.RecordLaws.{answered-alike}
 use Rattle.board.specs.Cpuid.{tableRules}
-use Rattle.board.specs.Map.{Region, regions, total, offset, mapRules}
+use Rattle.board.specs.Map.{Region, regions, total, offset, mapRules, modeRules}
 use Rattle.board.proofs.MapLaws.{Ordered, Covered, offset-injective, offset-inside}
-use Rattle.machine.specs.Bare.{modeRules, jobOf, ranBare, runBare}
+use Rattle.machine.specs.Bare.{jobOf, ranBare, runBare}
 use Rattle.machine.specs.Commands.{address}
 use Rattle.machine.specs.Machine.{Job, State, Store, begun, run, trace, answerOr}
 use Rattle.machine.specs.Memory.{applied}

@@ -1,20 +1,15 @@
 -- Running bare: a command file without SBS, with map, table, mode and memory ("The four jobs").
-use mathlib.Core.Bool.{Bool, not, _||_}
-use mathlib.Core.List.{List, [], _∷_, _++_}
+use mathlib.Core.List.{List, _++_}
 use Prim.Native.Nat.{ℕ}
 use lib.Dec.{eqb}
 use lib.ListN.{length}
 use Rattle.answers.specs.Answers.{Outcome, answered, refused}
-use Rattle.answers.specs.Rules.{pick, Rule, rule, firstBroken, sizeRules}
+use Rattle.answers.specs.Rules.{pick, Rule, firstBroken, sizeRules}
 use Rattle.board.specs.Board.{boardOf}
 use Rattle.board.specs.Cpuid.{tableRules}
-use Rattle.board.specs.Map.{mapRules, regions}
+use Rattle.board.specs.Map.{mapRules, modeRules, regions}
 use Rattle.machine.specs.Machine.{Job, State, begun, run, trace, answerOr}
 use Rattle.machine.specs.Memory.{applied}
-
--- 1: mode is 32 or 64
-abbrev pub modeRules : ℕ → List Rule
-modeRules mode = rule 1 (not (eqb mode 32 || eqb mode 64)) ∷ []
 
 -- a bare run gives 1, 2, 3 in this order before it looks at the file
 abbrev pub bareRules : List ℕ → List ℕ → List ℕ → ℕ → ℕ → List Rule

@@ -2,11 +2,12 @@
 ghost use mathlib.Core.Path.{_≡_};
 ghost use denote.Ref.{now};
 ghost use Rattle.answers.specs.Rules.{firstBroken};
-ghost use Rattle.machine.specs.Bare.{runBare, bareRules, modeRules};
+ghost use Rattle.machine.specs.Bare.{runBare, bareRules};
 use answers::codes;
 use answers::rules;
 use board::cpuid;
 use board::map;
+use board::reach;
 
 // Runs a command file: every byte counts as proved. Returns the code, and leaves the answer in the lent record.
 pub fn run_bare(
@@ -36,7 +37,7 @@ pub fn run_bare(
 fn bare_code(file: &[u8], map: &[u8], table: &[u8], mode: u64, memory: usize) -> u64
     ensures { λ r. ⌜ r ≡ firstBroken (bareRules (now (file .entry)) (now (map .entry)) (now (table .entry)) mode memory) ⌝ }
 {
-    let first = mode_code(mode);
+    let first = reach::mode_code(mode);
     if first != codes::DONE {
         return first;
     }
@@ -49,15 +50,4 @@ fn bare_code(file: &[u8], map: &[u8], table: &[u8], mode: u64, memory: usize) ->
         return third;
     }
     cpuid::table_code(table)
-}
-
-// Mode is 32 or 64.
-pub fn mode_code(mode: u64) -> u64
-    ensures { λ r. ⌜ r ≡ firstBroken (modeRules mode) ⌝ }
-{
-    match mode {
-        32 => codes::DONE,
-        64 => codes::DONE,
-        _ => codes::ARGUMENT,
-    }
 }

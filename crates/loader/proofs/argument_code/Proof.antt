@@ -2,8 +2,8 @@ use mathlib.Core.Path.{sym, _∙_}
 use mathlib.Core.List.{_++_}
 use borrow.Author.Needs.{needs}
 use Rattle.answers.specs.Rules.{signatureRules, sizeRules}
+use Rattle.board.specs.Map.{modeRules}
 use Rattle.chain.proofs.CodeLaws.{refuses, goes-on}
-use Rattle.machine.specs.Bare.{modeRules}
 use Rattle.loader.proofs.argument_code.Statement.{statement}
 use Rattle.loader.proofs.argument_code.Tie as tie
 

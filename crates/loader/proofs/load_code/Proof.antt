@@ -4,10 +4,9 @@ use borrow.Author.Needs.{needs}
 use lib.ListN.{length}
 use Rattle.answers.specs.Rules.{Rule, signatureRules, sizeRules}
 use Rattle.board.specs.Cpuid.{tableRules}
-use Rattle.board.specs.Map.{mapRules}
+use Rattle.board.specs.Map.{mapRules, modeRules}
 use Rattle.chain.specs.Header.{imageRules}
 use Rattle.chain.proofs.CodeLaws.{refuses, goes-on}
-use Rattle.machine.specs.Bare.{modeRules}
 use Rattle.loader.proofs.load_code.Statement.{statement}
 use Rattle.loader.proofs.load_code.Tie as tie
 

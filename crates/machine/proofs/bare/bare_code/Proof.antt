@@ -4,8 +4,7 @@ use borrow.Author.Needs.{needs}
 use lib.ListN.{length}
 use Rattle.answers.specs.Rules.{Rule, sizeRules}
 use Rattle.board.specs.Cpuid.{tableRules}
-use Rattle.board.specs.Map.{mapRules}
-use Rattle.machine.specs.Bare.{modeRules}
+use Rattle.board.specs.Map.{mapRules, modeRules}
 use Rattle.machine.proofs.BareCode.{rules-first, rules-then}
 use Rattle.machine.proofs.bare.bare_code.Statement.{statement}
 use Rattle.machine.proofs.bare.bare_code.Tie as tie

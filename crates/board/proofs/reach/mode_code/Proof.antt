@@ -2,9 +2,9 @@ use mathlib.Core.Path.{_≡_, sym, ap}
 use Prim.Native.Nat.{ℕ}
 use borrow.Author.Tests.{ne-eqb}
 use Rattle.answers.specs.Rules.{firstBroken}
-use Rattle.machine.specs.Bare.{modeRules}
-use Rattle.machine.proofs.bare.mode_code.Statement.{statement}
-use Rattle.machine.proofs.bare.mode_code.Tie as tie
+use Rattle.board.specs.Map.{modeRules}
+use Rattle.board.proofs.reach.mode_code.Statement.{statement}
+use Rattle.board.proofs.reach.mode_code.Tie as tie
 
 pub mode-code-spec : {M : Type 1} → statement M
 mode-code-spec =
