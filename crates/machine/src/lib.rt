@@ -153,17 +153,7 @@ pub fn has_stopped(m: Machine) -> bool
     ensures { λ r. ⌜ r ≡ isStopped (m .phase) ⌝ }
 {
     let phase = m.phase;
-    match phase {
-        Phase::Magic => false,
-        Phase::Header => false,
-        Phase::Parameters => false,
-        Phase::Storing {
-            address: _,
-            left: _,
-        } => false,
-        Phase::Skipping { left: _ } => false,
-        Phase::Stopped { code: _, place: _ } => true,
-    }
+    turns::is_stopped(phase)
 }
 
 // The answer of a run that has stopped; of one that has not, the given code and place with the counts as they stand.

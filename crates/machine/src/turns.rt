@@ -45,7 +45,8 @@ pub fn run_piece(
             if piece.len() <= at {
                 break 'piece;
             }
-            if is_stopped(s) {
+            let phase = s.phase;
+            if is_stopped(phase) {
                 break 'piece;
             }
             let t = turn(s, held, &piece[at..], size, map, table, mode, memory);
@@ -61,10 +62,10 @@ pub fn run_piece(
     s
 }
 
-fn is_stopped(c: Control) -> bool
-    ensures { λ r. ⌜ r ≡ code.isStopped (c .phase) ⌝ }
+// Whether the run has ended.
+pub fn is_stopped(phase: Phase) -> bool
+    ensures { λ r. ⌜ r ≡ code.isStopped phase ⌝ }
 {
-    let phase = c.phase;
     match phase {
         Phase::Magic => false,
         Phase::Header => false,
