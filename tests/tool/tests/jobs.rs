@@ -3,6 +3,7 @@
 use second::cases::run_lines::File;
 use second::sbs::{self, field};
 use std::os::unix::fs::{symlink, PermissionsExt};
+use std::time::{Duration, Instant};
 use std::{fs, thread};
 use tool::sample::{self, block_start, BLOCK, HEADER, SIGNATURE};
 
@@ -252,12 +253,13 @@ fn input_may_be_a_pipe() {
 #[test]
 fn time_and_sizes_are_shown_on_a_terminal_only() {
     let desk = sample::desk();
-    let slow = "(sleep 1.1; cat file) | runnelpin show /dev/stdin";
+    let slow = "(sleep 3; cat file) | runnelpin show /dev/stdin";
     let said = desk.shell(slow);
     assert!(said.status == 0 && said.err.is_empty(), "{said:?}");
     let size = desk.get("file").len();
-    for (wait, shows) in [("1.1", true), ("0", false)] {
+    for (wait, shows) in [("3", true), ("0", false)] {
         let tool = tool::desk::tool();
+        let began = Instant::now();
         let line = format!(
             "(sleep {wait}; cat file) | {} show /dev/stdin",
             tool.display()
@@ -267,7 +269,9 @@ fn time_and_sizes_are_shown_on_a_terminal_only() {
         let is_shown = said
             .out
             .contains(&format!(" s, {size} bytes read, 0 written"));
-        assert_eq!(is_shown, shows, "{said:?}");
+        // on a busy machine work that waits for nothing may take over a second, too
+        let is_slow = began.elapsed() > Duration::from_secs(1);
+        assert!(is_shown == shows || (is_shown && is_slow), "{said:?}");
     }
 }
 
