@@ -1,6 +1,6 @@
 -- Laws of the answer record.
 use mathlib.Core.Path.{_≡_, refl, sym, ap, _∙_}
-use mathlib.Core.Bool.{Bool, true, false}
+use mathlib.Core.Bool.{Bool, true, false, cond}
 use mathlib.Core.List.{List, _++_, append-nil}
 use Prim.Native.Nat.{ℕ, _+_, _^_, _≤_, _<_}
 use native.Mathlib.Nat.{zero-add}
@@ -12,7 +12,6 @@ use Rattle.octets.specs.Parts.{part, put}
 use Rattle.octets.proofs.NumberLaws.{little-littleBytes-lt}
 use Rattle.octets.proofs.PartLaws.{put-beside}
 use Rattle.answers.specs.Answers.{Outcome, answered, recordBytes}
-use Rattle.answers.specs.Rules.{pick}
 use Rattle.answers.specs.declared.Answer.{Answer}
 
 -- code and record are those of the answer, whatever is lent besides
@@ -22,7 +21,7 @@ pub answered-alike : (held : List ℕ) (a : Answer) (before after before′ afte
 answered-alike held a before after before′ after′ = go (eqb (length held) 40)
   where
     outcome : Bool → List ℕ → List ℕ → Outcome
-    outcome b x y = pick b (record { code = a .code; answer = recordBytes a; lent = y }) (record { code = 1; answer = held; lent = x })
+    outcome b x y = cond b (record { code = a .code; answer = recordBytes a; lent = y }) (record { code = 1; answer = held; lent = x })
 
     go : (b : Bool) → (outcome b before after .code ≡ outcome b before′ after′ .code) × (outcome b before after .answer ≡ outcome b before′ after′ .answer)
     go true = (refl, refl)

@@ -1,38 +1,38 @@
 -- Laws of rules in an order, where the first that is broken gives its number.
-use mathlib.Core.Bool.{Bool, true, false}
+use mathlib.Core.Bool.{Bool, true, false, cond}
 use mathlib.Core.List.{List, [], _∷_, _++_, List·Memᴰ, List·Memᴰ·head, List·Memᴰ·tail}
 use mathlib.Core.Logic.{_⊎_, inl, inr, _↔_}
 use mathlib.Core.Path.{_≡_, refl}
 use Prim.Native.Nat.{ℕ}
 use lib.Dec.{T, eqb}
 use borrow.Author.Tests.{eqb-false}
-use Rattle.answers.specs.Rules.{pick, Rule, firstBroken}
+use Rattle.answers.specs.Rules.{Rule, firstBroken}
 
 -- no rule bears the number 0
 abbrev pub numbered : List Rule → Bool
 numbered [] = true
-numbered (r ∷ rs) = pick (eqb (r .code) 0) false (numbered rs)
+numbered (r ∷ rs) = cond (eqb (r .code) 0) false (numbered rs)
 
 -- no rule is broken
 abbrev pub AllHold : List Rule → Type 0
 AllHold [] = Unit {0}
 AllHold (r ∷ rs) = (r .broken ≡ false) × AllHold rs
 
-numbered-parts : (t u : Bool) → T (pick t false u) → (t ≡ false) × T u
+numbered-parts : (t u : Bool) → T (cond t false u) → (t ≡ false) × T u
 numbered-parts true u h = absurd h
 numbered-parts false u h = (refl, h)
 
 -- a second list counts where the first holds
 pub first-broken-append : (xs ys : List Rule) → T (numbered xs)
-    → firstBroken (xs ++ ys) ≡ pick (eqb (firstBroken xs) 0) (firstBroken ys) (firstBroken xs)
+    → firstBroken (xs ++ ys) ≡ cond (eqb (firstBroken xs) 0) (firstBroken ys) (firstBroken xs)
 first-broken-append [] ys h = refl
 first-broken-append (r ∷ xs) ys h = step (r .broken) (numbered-parts (eqb (r .code) 0) (numbered xs) h .0)
     (first-broken-append xs ys (numbered-parts (eqb (r .code) 0) (numbered xs) h .1))
   where
     step : (b : Bool) → eqb (r .code) 0 ≡ false
-        → firstBroken (xs ++ ys) ≡ pick (eqb (firstBroken xs) 0) (firstBroken ys) (firstBroken xs)
-        → pick b (r .code) (firstBroken (xs ++ ys))
-        ≡ pick (eqb (pick b (r .code) (firstBroken xs)) 0) (firstBroken ys) (pick b (r .code) (firstBroken xs))
+        → firstBroken (xs ++ ys) ≡ cond (eqb (firstBroken xs) 0) (firstBroken ys) (firstBroken xs)
+        → cond b (r .code) (firstBroken (xs ++ ys))
+        ≡ cond (eqb (cond b (r .code) (firstBroken xs)) 0) (firstBroken ys) (cond b (r .code) (firstBroken xs))
     step true e below = rw e
     step false e below = below
 
@@ -45,7 +45,7 @@ zero-all-hold [] n e = tt
 zero-all-hold (r ∷ rs) n e = step (r .broken) refl e
     (zero-all-hold rs (numbered-parts (eqb (r .code) 0) (numbered rs) n .1))
   where
-    step : (b : Bool) → r .broken ≡ b → pick b (r .code) (firstBroken rs) ≡ 0 → (firstBroken rs ≡ 0 → AllHold rs)
+    step : (b : Bool) → r .broken ≡ b → cond b (r .code) (firstBroken rs) ≡ 0 → (firstBroken rs ≡ 0 → AllHold rs)
         → (r .broken ≡ false) × AllHold rs
     step true q z below = absurd (eqb-false (r .code) 0 (numbered-parts (eqb (r .code) 0) (numbered rs) n .0) z)
     step false q z below = (q, below z)
@@ -65,7 +65,7 @@ first-broken-among [] = inl refl
 first-broken-among (r ∷ rs) = step (r .broken) (first-broken-among rs)
   where
     step : (b : Bool) → (firstBroken rs ≡ 0) ⊎ List·Memᴰ (firstBroken rs) (codes rs)
-        → (pick b (r .code) (firstBroken rs) ≡ 0) ⊎ List·Memᴰ (pick b (r .code) (firstBroken rs)) (r .code ∷ codes rs)
+        → (cond b (r .code) (firstBroken rs) ≡ 0) ⊎ List·Memᴰ (cond b (r .code) (firstBroken rs)) (r .code ∷ codes rs)
     step true below = inr (List·Memᴰ·head refl)
     step false (inl e) = inl e
     step false (inr m) = inr (List·Memᴰ·tail m)
@@ -79,7 +79,7 @@ pub first-broken-has : (P : ℕ → Type 0) (rs : List Rule) → P 0 → EachCod
 first-broken-has P [] z h = z
 first-broken-has P (r ∷ rs) z h = step (r .broken) (first-broken-has P rs z (h .1))
   where
-    step : (b : Bool) → P (firstBroken rs) → P (pick b (r .code) (firstBroken rs))
+    step : (b : Bool) → P (firstBroken rs) → P (cond b (r .code) (firstBroken rs))
     step true below = h .0
     step false below = below
 
@@ -88,6 +88,6 @@ pub first-broken-same : (k : ℕ) (rs : List Rule) → EachCode (λ (n : ℕ). n
 first-broken-same k [] e f = absurd (f tt)
 first-broken-same k (r ∷ rs) e f = step (r .broken) refl (first-broken-same k rs (e .1))
   where
-    step : (b : Bool) → r .broken ≡ b → ((AllHold rs → ⊥) → firstBroken rs ≡ k) → pick b (r .code) (firstBroken rs) ≡ k
+    step : (b : Bool) → r .broken ≡ b → ((AllHold rs → ⊥) → firstBroken rs ≡ k) → cond b (r .code) (firstBroken rs) ≡ k
     step true q below = e .0
     step false q below = below (λ h. f (q, h))

@@ -1,10 +1,10 @@
 -- What a call answers, and what it leaves in the bytes lent to it ("The four jobs").
+use mathlib.Core.Bool.{cond}
 use mathlib.Core.List.{List, _++_}
 use Prim.Native.Nat.{ℕ}
 use lib.Dec.{eqb}
 use lib.ListN.{length}
 use Rattle.octets.specs.Numbers.{littleBytes}
-use Rattle.answers.specs.Rules.{pick}
 use Rattle.answers.specs.declared.Answer.{Answer}
 
 -- the lent record: code, place, commands done, bytes stored, entry, each 64 bits, little-endian
@@ -27,5 +27,5 @@ pub record Outcome : Type 0 where
 -- if the record isn't 40 bytes long the call returns 1 and writes nothing anywhere
 abbrev pub answered : List ℕ → Answer → List ℕ → List ℕ → Outcome
 answered held a before after =
-    pick (eqb (length held) 40) (record { code = a .code; answer = recordBytes a; lent = after })
+    cond (eqb (length held) 40) (record { code = a .code; answer = recordBytes a; lent = after })
     (record { code = 1; answer = held; lent = before })

@@ -1,13 +1,8 @@
 -- The table of numbered answers, read as rules in an order: the first that is broken gives its number.
-use mathlib.Core.Bool.{Bool, true, false}
+use mathlib.Core.Bool.{Bool, true, false, cond}
 use mathlib.Core.List.{List, [], _∷_}
 use Prim.Native.Nat.{ℕ, _^_}
 use lib.Dec.{eqb, ltb}
-
--- one of two, by a test
-abbrev pub pick : {A : Type 0} → Bool → A → A → A
-pick true a b = a
-pick false a b = b
 
 -- a rule: its number, and whether it is broken
 pub record Rule : Type 0 where
@@ -20,7 +15,7 @@ rule n b = record { code = n; broken = b }
 -- the number of the first broken rule, 0 where all hold
 abbrev pub firstBroken : List Rule → ℕ
 firstBroken [] = 0
-firstBroken (r ∷ rs) = pick (r .broken) (r .code) (firstBroken rs)
+firstBroken (r ∷ rs) = cond (r .broken) (r .code) (firstBroken rs)
 
 -- 1: expected signature length not in 1..4096
 abbrev pub signatureRules : ℕ → List Rule

@@ -14,7 +14,7 @@ use Rattle.answers.proofs.RuleLaws.{AllHold, zero-all-hold, all-hold-zero, firs
 use Rattle.board.specs.Records.{records}
 use Rattle.board.specs.Map.{Region, end, regions, ordered, total, mapRules, uncovered, ram, offset}
 use Rattle.board.proofs.RunLaws.{each-more}
-use Rattle.board.proofs.TestLaws.{le-or-lt, pick-false}
+use Rattle.board.proofs.TestLaws.{le-or-lt, cond-false}
 
 -- ---- the order of regions
 
@@ -27,9 +27,9 @@ pub ordered-means : (low : ℕ) (rs : List Region) → ordered low rs ≡ true �
 unfolding ordered
 ordered-means low [] h = tt
 ordered-means low (r ∷ rs) h =
-    let a = pick-false (ltb (r .size) 1) _ h in
-    let b = pick-false (ltb (r .base) low) _ (a .1) in
-    let d = pick-false (ltb (2 ^ 52) (end r)) (ordered (end r) rs) (b .1) in
+    let a = cond-false (ltb (r .size) 1) _ h in
+    let b = cond-false (ltb (r .base) low) _ (a .1) in
+    let d = cond-false (ltb (2 ^ 52) (end r)) (ordered (end r) rs) (b .1) in
     (ltb-false _ _ (a .0), ltb-false _ _ (b .0), ltb-false _ _ (d .0), ordered-means (end r) rs (d .1))
 
 pub ordered-step : (low : ℕ) (r : Region) (rs : List Region) → 1 ≤ r .size → low ≤ r .base → end r ≤ 2 ^ 52 → ordered low (r ∷ rs) ≡ ordered (end r) rs

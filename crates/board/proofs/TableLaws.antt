@@ -1,5 +1,5 @@
 -- Laws of the CPUID table: its order, and what a lookup finds.
-use mathlib.Core.Bool.{Bool, true, false, not}
+use mathlib.Core.Bool.{Bool, true, false, not, cond}
 use mathlib.Core.List.{List, _∷_}
 use mathlib.Core.Logic.{_⊎_, inl, inr}
 use mathlib.Core.Path.{_≡_, refl, sym, ap, subst, _∙_}
@@ -9,14 +9,14 @@ use native.Mathlib.Omega.{arith}
 use lib.Dec.{eqb, ltb}
 use lib.ListN.{length}
 use borrow.Author.Tests.{ltb-true, ltb-false, eqb-true, lt-ltb, le-ltb, eq-eqb, ne-eqb, not-false}
-use Rattle.answers.specs.Rules.{pick, firstBroken}
+use Rattle.answers.specs.Rules.{firstBroken}
 use Rattle.answers.proofs.RuleLaws.{AllHold, zero-all-hold, all-hold-zero, first-broken-same}
 use Rattle.board.specs.Cpuid.{Leaf, leaf, before, ascending, tableRules, register, lookup}
 use Rattle.board.specs.Records.{records}
 use Rattle.board.specs.declared.Found.{Found}
 use Rattle.board.specs.declared.Found.the-variants.{Word, Nothing}
 use Rattle.board.proofs.RunLaws.{each-more}
-use Rattle.board.proofs.TestLaws.{le-or-lt, pick-true}
+use Rattle.board.proofs.TestLaws.{le-or-lt, cond-true}
 
 -- ---- the order of records
 
@@ -28,7 +28,7 @@ pub before-means : (p q : Leaf) → before p q ≡ true → Before p q
 before-means p q = go (eqb (p .eaxInput) (q .eaxInput)) refl
   where
     go : (t : Bool) → eqb (p .eaxInput) (q .eaxInput) ≡ t
-        → pick t (ltb (p .ecxInput) (q .ecxInput)) (ltb (p .eaxInput) (q .eaxInput)) ≡ true → Before p q
+        → cond t (ltb (p .ecxInput) (q .ecxInput)) (ltb (p .eaxInput) (q .eaxInput)) ≡ true → Before p q
     go true e h = inr (eqb-true _ _ e, ltb-true _ _ h)
     go false e h = inl (ltb-true _ _ h)
 
@@ -56,7 +56,7 @@ module _ (read : ℕ → Leaf) where
   ascending-adjacent i zero h = λ j l m. absurd (omega arith)
   ascending-adjacent i (suc zero) h = λ j l m. absurd (omega arith)
   ascending-adjacent i (suc (suc n)) h = λ j l m.
-      let s = pick-true (before (read i) (read (suc i))) (ascending (records read (suc i) (suc n))) h in
+      let s = cond-true (before (read i) (read (suc i))) (ascending (records read (suc i) (suc n))) h in
       each-more (λ (j : ℕ). suc j < i + suc (suc n) → Before (read j) (read (suc j))) i (suc n)
       (λ p. before-means (read i) (read (suc i)) (s .0))
       (λ j l m p. ascending-adjacent (suc i) (suc n) (s .1) j l (omega arith)) j l (omega arith) m
@@ -116,7 +116,7 @@ module _ (l : Leaf) (ls : List Leaf) (eax ecx k : ℕ) where
   lookup-miss h = go (eqb (l .eaxInput) eax) refl (eqb (l .ecxInput) ecx) refl
     where
       go : (s : Bool) → eqb (l .eaxInput) eax ≡ s → (t : Bool) → eqb (l .ecxInput) ecx ≡ t
-          → pick s (pick t (Word (register k l)) (lookup ls eax ecx k)) (lookup ls eax ecx k) ≡ lookup ls eax ecx k
+          → cond s (cond t (Word (register k l)) (lookup ls eax ecx k)) (lookup ls eax ecx k) ≡ lookup ls eax ecx k
       go true e true f = absurd (h (eqb-true _ _ e, eqb-true _ _ f))
       go true e false f = refl
       go false e t f = refl

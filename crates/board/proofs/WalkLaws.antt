@@ -1,6 +1,6 @@
 -- Loops over the map and the table: what the records from number i on say, by the one that stands there and those behind it.
 
-use mathlib.Core.Bool.{Bool, true, false, false≢true}
+use mathlib.Core.Bool.{Bool, true, false, false≢true, cond}
 use mathlib.Core.List.{List, [], _∷_}
 use mathlib.Core.Path.{_≡_, refl, sym, ap, subst, _∙_}
 use Prim.Native.Nat.{ℕ, zero, suc, _+_, _-_, _/_, _^_, _≤_, _<_, max}
@@ -10,7 +10,6 @@ use native.Mathlib.Omega.{arith}
 use lib.Dec.{eqb}
 use lib.ListN.{length}
 use borrow.Author.Tests.{eqb-true, eq-eqb}
-use Rattle.answers.specs.Rules.{pick}
 use Rattle.board.specs.Cpuid.{Leaf, leaf, leaves, before, ascending, register, lookup}
 use Rattle.board.specs.Map.{Region, region, regions, end, ordered, total, uncovered, offset}
 use Rattle.board.specs.Records.{records}
@@ -18,7 +17,7 @@ use Rattle.board.specs.declared.Found.the-variants.{Word}
 use Rattle.board.proofs.MapLaws.{Ordered, ordered-means, ordered-step, total-fits, uncovered-step, uncovered-below, offset-none, offset-le-total}
 use Rattle.board.proofs.RunLaws.{records-next, records-end}
 use Rattle.board.proofs.TableLaws.{lookup-hit, lookup-miss}
-use Rattle.board.proofs.TestLaws.{pick-true, pick-eq}
+use Rattle.board.proofs.TestLaws.{cond-true, cond-eq}
 
 -- ---- the map
 
@@ -123,10 +122,10 @@ leaves-next table i h = records-next (leaf table) i (length table / 24) h
 
 -- record i, where t is whether it has both inputs
 module _ (table : List ℕ) (i eax ecx k : ℕ) (h : i < length table / 24) (t : Bool)
-    (has : t ≡ pick (eqb (leaf table i .eaxInput) eax) (eqb (leaf table i .ecxInput) ecx) false) where
+    (has : t ≡ cond (eqb (leaf table i .eaxInput) eax) (eqb (leaf table i .ecxInput) ecx) false) where
   pub lookup-here : t ≡ true → lookup (leavesLeft table i) eax ecx k ≡ Word (register k (leaf table i))
   lookup-here e =
-      let p = pick-true _ _ (sym has ∙ e) in
+      let p = cond-true _ _ (sym has ∙ e) in
       ap (λ (ls : List Leaf). lookup ls eax ecx k) (leaves-next table i h)
       ∙ lookup-hit (leaf table i) (leavesLeft table (i + 1)) eax ecx k (eqb-true _ _ (p .0), eqb-true _ _ (p .1))
 
@@ -134,16 +133,16 @@ module _ (table : List ℕ) (i eax ecx k : ℕ) (h : i < length table / 24) (t :
   lookup-on e =
       ap (λ (ls : List Leaf). lookup ls eax ecx k) (leaves-next table i h)
       ∙ lookup-miss (leaf table i) (leavesLeft table (i + 1)) eax ecx k
-      (λ p. false≢true (sym e ∙ has ∙ pick-eq _ _ _ _ (p .0) ∙ eq-eqb _ _ (p .1)))
+      (λ p. false≢true (sym e ∙ has ∙ cond-eq _ _ _ _ (p .0) ∙ eq-eqb _ _ (p .1)))
 
 -- record i and the next decide, then those from the next on
 pub ascending-on : (table : List ℕ) (i : ℕ) → i + 1 < length table / 24
-    → ascending (leavesLeft table i) ≡ pick (before (leaf table i) (leaf table (i + 1))) (ascending (leavesLeft table (i + 1))) false
+    → ascending (leavesLeft table i) ≡ cond (before (leaf table i) (leaf table (i + 1))) (ascending (leavesLeft table (i + 1))) false
 unfolding ascending
 ascending-on table i h =
     let q = leaves-next table (i + 1) h in
     ap ascending (leaves-next table i (omega arith) ∙ ap (λ (ls : List Leaf). leaf table i ∷ ls) q)
-    ∙ ap (λ (ls : List Leaf). pick (before (leaf table i) (leaf table (i + 1))) (ascending ls) false) (sym q)
+    ∙ ap (λ (ls : List Leaf). cond (before (leaf table i) (leaf table (i + 1))) (ascending ls) false) (sym q)
 
 -- the last record alone, or none
 pub ascending-end : (table : List ℕ) (i : ℕ) → length table / 24 ≤ i + 1 → ascending (leavesLeft table i) ≡ true

@@ -1,12 +1,12 @@
 -- The CPUID table ("Where the addresses really are"): which tables are taken, and what a lookup finds.
-use mathlib.Core.Bool.{Bool, true, false, not}
+use mathlib.Core.Bool.{Bool, true, false, not, cond}
 use mathlib.Core.List.{List, [], _∷_}
 use Prim.Native.Nat.{ℕ, _+_, _*_, _/_, _%_}
 use lib.Dec.{eqb, ltb}
 use lib.ListN.{length}
 use Rattle.octets.specs.Numbers.{little}
 use Rattle.octets.specs.Parts.{part}
-use Rattle.answers.specs.Rules.{pick, Rule, rule}
+use Rattle.answers.specs.Rules.{Rule, rule}
 use Rattle.board.specs.Records.{records}
 use Rattle.board.specs.declared.Found.{Found}
 use Rattle.board.specs.declared.Found.the-variants.{Word, Nothing}
@@ -37,13 +37,13 @@ leaves table = records (leaf table) 0 (length table / 24)
 -- p comes before q: by EAX input and then ECX input
 abbrev pub before : Leaf → Leaf → Bool
 before p q =
-    pick (eqb (p .eaxInput) (q .eaxInput)) (ltb (p .ecxInput) (q .ecxInput)) (ltb (p .eaxInput) (q .eaxInput))
+    cond (eqb (p .eaxInput) (q .eaxInput)) (ltb (p .ecxInput) (q .ecxInput)) (ltb (p .eaxInput) (q .eaxInput))
 
 -- strictly ascending
 unfoldable pub ascending : List Leaf → Bool
 ascending [] = true
 ascending (p ∷ []) = true
-ascending (p ∷ (q ∷ rest)) = pick (before p q) (ascending (q ∷ rest)) false
+ascending (p ∷ (q ∷ rest)) = cond (before p q) (ascending (q ∷ rest)) false
 
 -- 3: the table isn't whole records, has more than 64, or they do not ascend
 abbrev pub tableRules : List ℕ → List Rule
@@ -55,11 +55,11 @@ tableRules table =
 
 -- the result register by its number: 0 EAX, 1 EBX, 2 ECX, 3 EDX
 abbrev pub register : ℕ → Leaf → ℕ
-register n l = pick (eqb n 0) (l .eax) (pick (eqb n 1) (l .ebx) (pick (eqb n 2) (l .ecx) (l .edx)))
+register n l = cond (eqb n 0) (l .eax) (cond (eqb n 1) (l .ebx) (cond (eqb n 2) (l .ecx) (l .edx)))
 
 -- a lookup needs both inputs equal; what the wanted register holds there
 unfoldable pub lookup : List Leaf → ℕ → ℕ → ℕ → Found
 lookup [] eax ecx n = Nothing
 lookup (l ∷ ls) eax ecx n =
-    pick (eqb (l .eaxInput) eax) (pick (eqb (l .ecxInput) ecx) (Word (register n l)) (lookup ls eax ecx n))
+    cond (eqb (l .eaxInput) eax) (cond (eqb (l .ecxInput) ecx) (Word (register n l)) (lookup ls eax ecx n))
     (lookup ls eax ecx n)

@@ -1,13 +1,13 @@
 -- The memory map ("Where the addresses really are"): which maps are taken, which ranges are RAM and reachable,
 -- and which byte of the lent memory an address is.
-use mathlib.Core.Bool.{Bool, true, false, not, _||_}
+use mathlib.Core.Bool.{Bool, true, false, not, _||_, cond}
 use mathlib.Core.List.{List, [], _∷_}
 use Prim.Native.Nat.{ℕ, _+_, _-_, _*_, _/_, _%_, _^_, min, max}
 use lib.Dec.{eqb, leb, ltb}
 use lib.ListN.{length}
 use Rattle.octets.specs.Numbers.{little}
 use Rattle.octets.specs.Parts.{part}
-use Rattle.answers.specs.Rules.{pick, Rule, rule}
+use Rattle.answers.specs.Rules.{Rule, rule}
 use Rattle.board.specs.Records.{records}
 
 pub record Region : Type 0 where
@@ -29,8 +29,8 @@ regions map = records (region map) 0 (length map / 16)
 unfoldable pub ordered : ℕ → List Region → Bool
 ordered low [] = true
 ordered low (r ∷ rs) =
-    pick (ltb (r .size) 1) false
-    (pick (ltb (r .base) low) false (pick (ltb (2 ^ 52) (end r)) false (ordered (end r) rs)))
+    cond (ltb (r .size) 1) false
+    (cond (ltb (r .base) low) false (cond (ltb (2 ^ 52) (end r)) false (ordered (end r) rs)))
 
 -- lent memory is the regions' bytes one behind the other
 unfoldable pub total : List Region → ℕ
@@ -52,7 +52,7 @@ mapRules map memory =
 -- the lowest address at or above a that is in no region, of regions in order
 unfoldable pub uncovered : List Region → ℕ → ℕ
 uncovered [] a = a
-uncovered (r ∷ rs) a = uncovered rs (pick (leb (r .base) a) (max a (end r)) a)
+uncovered (r ∷ rs) a = uncovered rs (cond (leb (r .base) a) (max a (end r)) a)
 
 -- a range is RAM if each of its bytes lies in a region; for n = 0 it always is
 abbrev pub ram : List Region → ℕ → ℕ → Bool
@@ -69,7 +69,7 @@ modeRules mode = rule 1 (not (eqb mode 32 || eqb mode 64)) ∷ []
 
 -- the reach limit of a mode, 32 or 64
 abbrev pub limit : ℕ → ℕ
-limit mode = pick (eqb mode 32) (2 ^ 32) (2 ^ 52)
+limit mode = cond (eqb mode 32) (2 ^ 32) (2 ^ 52)
 
 -- a range of n bytes at a is reachable if a + n is at most the limit; for n = 0, a must be below it
 abbrev pub reachable : ℕ → ℕ → ℕ → Bool

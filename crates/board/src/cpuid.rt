@@ -1,10 +1,10 @@
 ghost use mathlib.Core.Path.{_≡_};
-ghost use mathlib.Core.Bool.{false};
+ghost use mathlib.Core.Bool.{false, cond};
 ghost use Prim.Native.Nat.{_+_, _/_, _<_};
 ghost use denote.Ref.{now};
 ghost use lib.Dec.{eqb};
 ghost use lib.ListN.{length};
-ghost use Rattle.answers.specs.Rules.{pick, firstBroken};
+ghost use Rattle.answers.specs.Rules.{firstBroken};
 ghost use Rattle.board.specs.Cpuid as spec;
 use crate::Found;
 use answers::codes;
@@ -44,7 +44,7 @@ pub fn lookup(table: &[u8], eax: u32, ecx: u32, register: u64) -> Found
 // Whether record `i` has both inputs.
 fn has_inputs(table: &[u8], i: usize, eax: u32, ecx: u32) -> bool
     requires { ⌜ i < length (now table) / 24 ⌝ }
-    ensures { λ r. ⌜ r ≡ pick (eqb (spec.leaf (now (table .entry)) i .eaxInput) eax)
+    ensures { λ r. ⌜ r ≡ cond (eqb (spec.leaf (now (table .entry)) i .eaxInput) eax)
         (eqb (spec.leaf (now (table .entry)) i .ecxInput) ecx) false ⌝ }
 {
     if eax_input(table, i) == eax {

@@ -1,6 +1,6 @@
 -- Laws of the chain of blocks: how many are proved, turn by turn, and the file that they hold.
 use mathlib.Core.Path.{_≡_, refl, sym, ap, ap₂, _∙_}
-use mathlib.Core.Bool.{Bool, true, false, not}
+use mathlib.Core.Bool.{Bool, true, false, not, cond}
 use mathlib.Core.List.{List, [], _++_}
 use mathlib.Core.Logic.{⊎-elim}
 use Prim.Native.Nat.{ℕ, zero, suc, _+_, _-_, _*_, _≤_, _<_}
@@ -13,7 +13,7 @@ use lib.Seq.{take-append-le, take-length, take-all, drop-append-le, drop-drop, d
 use Rattle.octets.specs.Parts.{part, put, allZero}
 use Rattle.octets.proofs.PartLaws.{put-beside}
 use Rattle.octets.proofs.TestLaws.{same-eq, eq-same}
-use Rattle.answers.specs.Rules.{pick, firstBroken}
+use Rattle.answers.specs.Rules.{firstBroken}
 use Rattle.answers.proofs.RuleLaws.{zero-all-hold, all-hold-zero}
 use Rattle.chain.specs.Hashsum.{hashsum}
 use Rattle.chain.specs.Blocks.{hashField, paddingOf, blockRules, blockCode, expected, fileBytes, proved, fileUpTo}
@@ -29,10 +29,10 @@ pub data Turn (n m m′ c : ℕ) : Type 0 where
   -- not all were, and so it stays
   held : m < n → m′ ≡ m → Turn n m m′ c
 
-turn-of : (n m c : ℕ) → m ≤ n → Turn n m (pick (eqb m n) (pick (eqb c 0) (suc n) n) m) c
+turn-of : (n m c : ℕ) → m ≤ n → Turn n m (cond (eqb m n) (cond (eqb c 0) (suc n) n) m) c
 turn-of n m c h = go (eqb m n) (eqb c 0) refl refl
   where
-    go : (a b : Bool) → eqb m n ≡ a → eqb c 0 ≡ b → Turn n m (pick a (pick b (suc n) n) m) c
+    go : (a b : Bool) → eqb m n ≡ a → eqb c 0 ≡ b → Turn n m (cond a (cond b (suc n) n) m) c
     go true true p q = went (eqb-true m n p) (eqb-true c 0 q) refl
     go true false p q = stopped (eqb-true m n p) (eqb-false c 0 q) refl
     go false b p q = held (let ne : (m ≡ n → ⊥) = eqb-false m n p in omega arith) refl
@@ -144,7 +144,7 @@ module _ (d : Header) (block block′ : ℕ → List ℕ) where
   unfolding proved
   proved-agrees zero a = refl
   proved-agrees (suc n) a =
-      ap₂ (λ (m c : ℕ). pick (eqb m n) (pick (eqb c 0) (suc n) n) m) (proved-agrees n (λ i h. a i (omega arith)))
+      ap₂ (λ (m c : ℕ). cond (eqb m n) (cond (eqb c 0) (suc n) n) m) (proved-agrees n (λ i h. a i (omega arith)))
       (code-agrees n a)
 
   pub file-agrees : (n : ℕ) → Agree n block block′ → fileUpTo d block n ≡ fileUpTo d block′ n
@@ -157,7 +157,7 @@ module _ (d : Header) (block block′ : ℕ → List ℕ) where
 
 -- only the first block is padded
 pub unpadded : (d : Header) (k : ℕ) → paddingOf d (suc k) ≡ 0
-unpadded d k = ap (λ (b : Bool). pick b (d .padding) 0) (eqb·suc-zero k)
+unpadded d k = ap (λ (b : Bool). cond b (d .padding) 0) (eqb·suc-zero k)
 
 module _ (d : Header) (block : ℕ → List ℕ) where
   pub file-none : fileUpTo d block zero ≡ []
@@ -235,7 +235,7 @@ module _ (d : Header) (k : ℕ) (expected block : List ℕ) where
         hashed = same-eq (hashsum (d .ids) block) expected (not-false _ (h .0));
         padded = not-false _ (h .1 .0);
         last = λ q. not-false _
-            (ap (λ (b : Bool). pick b (not (allZero (hashField d block))) false) (sym (eq-eqb (suc k) (d .count) q))
+            (ap (λ (b : Bool). cond b (not (allZero (hashField d block))) false) (sym (eq-eqb (suc k) (d .count) q))
             ∙ h .1 .1 .0);
       }
 
@@ -246,7 +246,7 @@ module _ (d : Header) (k : ℕ) (expected block : List ℕ) where
         (ap not (r .padded), (go (eqb (suc k) (d .count)) refl, tt)),
       )
     where
-      go : (b : Bool) → eqb (suc k) (d .count) ≡ b → pick b (not (allZero (hashField d block))) false ≡ false
+      go : (b : Bool) → eqb (suc k) (d .count) ≡ b → cond b (not (allZero (hashField d block))) false ≡ false
       go true q = ap not (r .last (eqb-true (suc k) (d .count) q))
       go false q = refl
 

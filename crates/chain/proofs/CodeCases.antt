@@ -1,6 +1,6 @@
 -- For each code that open and pack can give, an input that gets it: small images with SHA2-256, computed.
 use mathlib.Core.Path.{_≡_, refl, sym, ap, ap₂, _∙_}
-use mathlib.Core.Bool.{Bool, true, false}
+use mathlib.Core.Bool.{Bool, true, false, cond}
 use mathlib.Core.List.{List, [], _∷_, _++_, map}
 use Prim.Native.Nat.{ℕ}
 use native.Mathlib.Omega.{arith}
@@ -10,7 +10,7 @@ use lib.ListN.{length, take, replicate}
 use Rattle.octets.specs.Numbers.{little, littleBytes}
 use Rattle.octets.specs.Parts.{put, same, allZero}
 use Rattle.answers.specs.Answers.{Outcome}
-use Rattle.answers.specs.Rules.{pick, firstBroken}
+use Rattle.answers.specs.Rules.{firstBroken}
 use Rattle.hashes.specs.Compression as compression
 use Rattle.hashes.specs.Digests as digests
 use Rattle.hashes.specs.Padding as messages
@@ -41,7 +41,7 @@ either true f g = f tt
 either false f g = g tt
 
 abbrev blocksCode : Header → (ℕ → List ℕ) → ℕ → ℕ
-blocksCode d block n = pick (eqb (proved d block n) n) 0 (blockCode d block (proved d block n))
+blocksCode d block n = cond (eqb (proved d block n) n) 0 (blockCode d block (proved d block n))
 
 -- the code that the blocks get; of a single block, its own
 abbrev quickBlocks : Header → (ℕ → List ℕ) → ℕ
@@ -61,8 +61,8 @@ module _ (d : Header) (block : ℕ → List ℕ) where
   single = go (turn d block 0)
     where
       go : Turn 0 (proved d block 0) (proved d block 1) (blockCode d block 0) → blocksCode d block 1 ≡ blockCode d block 0
-      go (went p q r) = ap (λ (m : ℕ). pick (eqb m 1) 0 (blockCode d block m)) r ∙ sym q
-      go (stopped p q r) = ap (λ (m : ℕ). pick (eqb m 1) 0 (blockCode d block m)) r
+      go (went p q r) = ap (λ (m : ℕ). cond (eqb m 1) 0 (blockCode d block m)) r ∙ sym q
+      go (stopped p q r) = ap (λ (m : ℕ). cond (eqb m 1) 0 (blockCode d block m)) r
       go (Turn.held p r) = absurd (omega arith)
 
   quick-blocks : quickBlocks d block ≡ blocksCode d block (d .count)

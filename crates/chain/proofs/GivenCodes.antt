@@ -1,6 +1,6 @@
 -- Which codes open and pack give, and what each leaves in the output.
 use mathlib.Core.Path.{_≡_, refl, sym, ap, subst}
-use mathlib.Core.Bool.{Bool, true, false, not, _&&_, _||_}
+use mathlib.Core.Bool.{Bool, true, false, not, _&&_, _||_, cond}
 use mathlib.Core.List.{List, [], _∷_}
 use Prim.Native.Nat.{ℕ, suc}
 use native.Mathlib.Omega.{arith}
@@ -10,7 +10,7 @@ use lib.ListN.{length}
 use Rattle.octets.specs.Parts.{put}
 use Rattle.answers.specs.Answers.{Outcome, refused, recordBytes}
 use Rattle.answers.specs.declared.Answer.{Answer}
-use Rattle.answers.specs.Rules.{pick, Rule, firstBroken}
+use Rattle.answers.specs.Rules.{Rule, firstBroken}
 use Rattle.chain.specs.Blocks.{blockOf, blockRules, blockCode, expected, proved, fileUpTo}
 use Rattle.chain.specs.Header.{Header, headerOf}
 use Rattle.chain.specs.Open.{openRules, openAnswer, opened}
@@ -39,7 +39,7 @@ code-passes f (r ∷ rs) z t =
     go (r .broken) (and-parts (f (r .code)) (codesPass f rs) t .0)
     (code-passes f rs z (and-parts (f (r .code)) (codesPass f rs) t .1))
   where
-    go : (b : Bool) → T (f (r .code)) → T (f (firstBroken rs)) → T (f (pick b (r .code) (firstBroken rs)))
+    go : (b : Bool) → T (f (r .code)) → T (f (firstBroken rs)) → T (f (cond b (r .code) (firstBroken rs)))
     go true p q = p
     go false p q = q
 
@@ -84,10 +84,10 @@ module _ (image approved : List ℕ) (signature : ℕ) (output held : List ℕ) 
 
   -- the code of a block that was looked at passes what 0, 13, 14 and 15 do
   pub block-code : (f : ℕ → Bool) → T (f 0) → T (f 13 && (f 14 && (f 15 && true)))
-      → T (f (pick (eqb m (d .count)) 0 (blockCode d block m)))
+      → T (f (cond (eqb m (d .count)) 0 (blockCode d block m)))
   block-code f z t = go (eqb m (d .count))
     where
-      go : (b : Bool) → T (f (pick b 0 (blockCode d block m)))
+      go : (b : Bool) → T (f (cond b 0 (blockCode d block m)))
       go true = z
       go false = code-passes f (blockRules d m (expected d block m) (block m)) z t
 
@@ -109,7 +109,7 @@ module _ (image approved : List ℕ) (signature : ℕ) (output held : List ℕ) 
       go (refusing l c q) = ap (λ (x : Outcome). x .lent) q
       go (proving l c q) =
           absurd
-          (T-not (among cs (pick (eqb m (d .count)) 0 (blockCode d block m))) (block-code (λ (x : ℕ). not (among cs x)) z t)
+          (T-not (among cs (cond (eqb m (d .count)) 0 (blockCode d block m))) (block-code (λ (x : ℕ). not (among cs x)) z t)
           (subst (λ (x : Outcome). T (among cs (x .code))) q h))
 
   pub unchanged : T (among (1 ∷ 4 ∷ 5 ∷ 6 ∷ 7 ∷ 8 ∷ 9 ∷ 10 ∷ 11 ∷ 12 ∷ 29 ∷ []) (o .code)) → o .lent ≡ output
@@ -134,9 +134,9 @@ module _ (image approved : List ℕ) (signature : ℕ) (output held : List ℕ) 
   pub record Tells (a : Answer) : Type 0 where
     pub written : o .answer ≡ recordBytes a
     pub code : o .code ≡ a .code
-    pub place : a .place ≡ pick (among (13 ∷ 14 ∷ 15 ∷ []) (a .code)) (suc m) 0
+    pub place : a .place ≡ cond (among (13 ∷ 14 ∷ 15 ∷ []) (a .code)) (suc m) 0
     pub commands : a .commands ≡ 0
-    pub stored : a .stored ≡ pick (among (0 ∷ 13 ∷ 14 ∷ 15 ∷ []) (a .code)) (length (fileUpTo d block m)) 0
+    pub stored : a .stored ≡ cond (among (0 ∷ 13 ∷ 14 ∷ 15 ∷ []) (a .code)) (length (fileUpTo d block m)) 0
     pub entry : a .entry ≡ 0
 
   -- a refusal before any block has none of the codes that come from blocks
@@ -152,9 +152,9 @@ module _ (image approved : List ℕ) (signature : ℕ) (output held : List ℕ) 
       (fails d block (d .count) (omega (arith, proved-le d block (d .count)))))
 
   block-place : (b : Bool) → eqb m (d .count) ≡ b
-      → pick b 0 (suc m) ≡ pick (among (13 ∷ 14 ∷ 15 ∷ []) (pick b 0 (blockCode d block m))) (suc m) 0
+      → cond b 0 (suc m) ≡ cond (among (13 ∷ 14 ∷ 15 ∷ []) (cond b 0 (blockCode d block m))) (suc m) 0
   block-place true e = refl
-  block-place false e = sym (ap (λ (x : Bool). pick x (suc m) 0) (bad-code (eqb-false m (d .count) e)))
+  block-place false e = sym (ap (λ (x : Bool). cond x (suc m) 0) (bad-code (eqb-false m (d .count) e)))
 
   pub told : length held ≡ 40 → (a : Answer) × Tells a
   told h = go open-way
@@ -166,10 +166,10 @@ module _ (image approved : List ℕ) (signature : ℕ) (output held : List ℕ) 
         record {
           written = ap (λ (x : Outcome). x .answer) q;
           code = ap (λ (x : Outcome). x .code) q;
-          place = sym (ap (λ (x : Bool). pick x (suc m) 0) (refused-code (13 ∷ 14 ∷ 15 ∷ []) tt c));
+          place = sym (ap (λ (x : Bool). cond x (suc m) 0) (refused-code (13 ∷ 14 ∷ 15 ∷ []) tt c));
           commands = refl;
           stored = sym
-              (ap (λ (x : Bool). pick x (length (fileUpTo d block m)) 0) (refused-code (0 ∷ 13 ∷ 14 ∷ 15 ∷ []) tt c));
+              (ap (λ (x : Bool). cond x (length (fileUpTo d block m)) 0) (refused-code (0 ∷ 13 ∷ 14 ∷ 15 ∷ []) tt c));
           entry = refl;
         },
       )
@@ -181,8 +181,8 @@ module _ (image approved : List ℕ) (signature : ℕ) (output held : List ℕ) 
           place = block-place (eqb m (d .count)) refl;
           commands = refl;
           stored = sym
-              (ap (λ (x : Bool). pick x (length (fileUpTo d block m)) 0)
-              (is-true (among (0 ∷ 13 ∷ 14 ∷ 15 ∷ []) (pick (eqb m (d .count)) 0 (blockCode d block m)))
+              (ap (λ (x : Bool). cond x (length (fileUpTo d block m)) 0)
+              (is-true (among (0 ∷ 13 ∷ 14 ∷ 15 ∷ []) (cond (eqb m (d .count)) 0 (blockCode d block m)))
               (block-code (among (0 ∷ 13 ∷ 14 ∷ 15 ∷ [])) tt tt)));
           entry = refl;
         },
@@ -193,7 +193,7 @@ module _ (image approved : List ℕ) (signature : ℕ) (output held : List ℕ) 
 pub packed-image : (p : Order) (output : List ℕ) → packed p output .code ≡ 0 → packed p output .output ≡ image p
 unfolding packed
 packed-image p output e =
-    ap (λ (b : Bool). pick b (image p) output) (eq-eqb (firstBroken (packRules p (length output))) 0 e)
+    ap (λ (b : Bool). cond b (image p) output) (eq-eqb (firstBroken (packRules p (length output))) 0 e)
 
 pub packed-passes-rules : (p : Order) (output : List ℕ) → packed p output .code ≡ 0 → firstBroken (packRules p (length output)) ≡ 0
 unfolding packed
@@ -202,4 +202,4 @@ packed-passes-rules p output e = e
 pub packed-unchanged : (p : Order) (output : List ℕ) → (packed p output .code ≡ 0 → ⊥) → packed p output .output ≡ output
 unfolding packed
 packed-unchanged p output ne =
-    ap (λ (b : Bool). pick b (image p) output) (ne-eqb (firstBroken (packRules p (length output))) 0 ne)
+    ap (λ (b : Bool). cond b (image p) output) (ne-eqb (firstBroken (packRules p (length output))) 0 ne)

@@ -1,6 +1,6 @@
 -- Laws of hashsums: their length, and that they are bytes.
 use mathlib.Core.Path.{_≡_, refl, ap₂, _∙_}
-use mathlib.Core.Bool.{Bool, true, false, true≢false}
+use mathlib.Core.Bool.{Bool, true, false, true≢false, cond}
 use mathlib.Core.List.{List, [], _∷_}
 use Prim.Native.Nat.{ℕ, zero, suc, _+_, _*_, _≤_, _<_}
 use native.Mathlib.Nat.{lt-of-not-le}
@@ -10,7 +10,6 @@ use lib.Dec.{eqb}
 use lib.ListN.{length, getD, length-append}
 use Rattle.octets.specs.Parts.{Octets}
 use Rattle.octets.proofs.PartLaws.{octets-append}
-use Rattle.answers.specs.Rules.{pick}
 use Rattle.hashes.specs.Digests.{digest, digestLength}
 use Rattle.hashes.proofs.Theorems.{length-digest, octets-digest, digestLength-most, digestLength-high}
 use Rattle.chain.specs.Hashsum.{hashsum, sumLength, anyUnknown}
@@ -38,11 +37,11 @@ pub sumLength-four : (ids : List ℕ) → length ids ≡ 4 → sumLength ids ≤
 sumLength-four ids e = omega (arith, sumLength-at-most ids)
 
 -- a known ID fits its two bytes
-known-first : (id : ℕ) (rest : Bool) → pick (eqb id 0) rest (pick (eqb (digestLength id) 0) true rest) ≡ false
+known-first : (id : ℕ) (rest : Bool) → cond (eqb id 0) rest (cond (eqb (digestLength id) 0) true rest) ≡ false
     → (id < 65536) × (rest ≡ false)
 known-first id rest e = go (eqb id 0) (eqb (digestLength id) 0) refl refl e
   where
-    go : (a b : Bool) → eqb id 0 ≡ a → eqb (digestLength id) 0 ≡ b → pick a rest (pick b true rest) ≡ false
+    go : (a b : Bool) → eqb id 0 ≡ a → eqb (digestLength id) 0 ≡ b → cond a rest (cond b true rest) ≡ false
         → (id < 65536) × (rest ≡ false)
     go true b p q r = (let z : id ≡ 0 = eqb-true id 0 p in omega arith, r)
     go false true p q r = absurd (true≢false r)

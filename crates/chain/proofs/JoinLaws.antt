@@ -1,6 +1,6 @@
 -- Laws of the loops over the hash IDs: one more digest joined, one more compared, one more ID judged.
 use mathlib.Core.Path.{_≡_, refl, sym, ap, ap₂, _∙_}
-use mathlib.Core.Bool.{Bool, true, false, not, _&&_, and-assoc, Bool·not-not}
+use mathlib.Core.Bool.{Bool, true, false, not, _&&_, and-assoc, Bool·not-not, cond}
 use mathlib.Core.List.{List, [], _∷_, _++_, append-assoc, append-nil}
 use Prim.Native.Nat.{ℕ, zero, suc, _+_, _-_, _≤_, _<_}
 use native.Mathlib.Nat.{add-assoc, zero-sub}
@@ -12,7 +12,6 @@ use lib.ListN.{length, getD, take, drop, replicate, drop-of-length-le, length-dr
 use lib.Seq.{take-suc, take-length, take-append-seam, take-at, take-append-le, drop-append-add, drop-cons, drop-drop}
 use Rattle.octets.specs.Parts.{part, put, same}
 use Rattle.octets.proofs.TestLaws.{same-eq, ne-same}
-use Rattle.answers.specs.Rules.{pick}
 use Rattle.hashes.specs.Digests.{digest, digestLength}
 use Rattle.hashes.specs.Code.{digestedBy}
 use Rattle.hashes.specs.declared.Digested.{Digested}
@@ -50,11 +49,11 @@ module _ (ids : List ℕ) (i : ℕ) (h : i < length ids) where
       ∙ ap (λ (t : List ℕ). hashsum (take i ids) m ++ t) (append-nil (digest (getD ids i 0) m))
 
   judged : {a b : Bool} → eqb (getD ids i 0) 0 ≡ a → eqb (digestLength (getD ids i 0)) 0 ≡ b
-      → anyUnknown (drop i ids) ≡ pick a (anyUnknown (drop (i + 1) ids)) (pick b true (anyUnknown (drop (i + 1) ids)))
+      → anyUnknown (drop i ids) ≡ cond a (anyUnknown (drop (i + 1) ids)) (cond b true (anyUnknown (drop (i + 1) ids)))
   unfolding anyUnknown
   judged p q =
       ap anyUnknown (drop-cons ids i 0 h)
-      ∙ ap₂ (λ (a b : Bool). pick a (anyUnknown (drop (suc i) ids)) (pick b true (anyUnknown (drop (suc i) ids)))) p q
+      ∙ ap₂ (λ (a b : Bool). cond a (anyUnknown (drop (suc i) ids)) (cond b true (anyUnknown (drop (suc i) ids)))) p q
       ∙ rw add-one
 
   -- none, known and unknown

@@ -1,6 +1,6 @@
 -- Laws of open: its outcome by its header and blocks alone, where it is done, and where two images get the same.
 use mathlib.Core.Path.{_≡_, refl, sym, ap, ap₂, fun-ext, _∙_}
-use mathlib.Core.Bool.{Bool, true, false, not}
+use mathlib.Core.Bool.{Bool, true, false, not, cond}
 use mathlib.Core.List.{List, [], _∷_, _++_, append-nil}
 use Prim.Native.Nat.{ℕ, suc, _+_, _*_}
 use native.Mathlib.Nat.{zero-add, le-of-eq}
@@ -11,7 +11,7 @@ use lib.ListN.{length, take, drop, drop-of-length-le}
 use lib.Seq.{drop-drop}
 use Rattle.octets.specs.Parts.{part, put, same}
 use Rattle.answers.specs.Answers.{Outcome, answered, refused, recordBytes}
-use Rattle.answers.specs.Rules.{pick, Rule, rule, firstBroken, signatureRules, sizeRules}
+use Rattle.answers.specs.Rules.{Rule, rule, firstBroken, signatureRules, sizeRules}
 use Rattle.answers.specs.declared.Answer.{Answer}
 use Rattle.chain.specs.Blocks.{blockCode, proved, fileUpTo}
 use Rattle.chain.specs.Header.{Header, headerOf, fileLength, blocksStart, fieldRules, streamRules}
@@ -28,7 +28,7 @@ blocksBy image header d k = part image (header + d .signature + k * d .blockSize
 unfoldable pub outcome : ℕ → Header → (ℕ → List ℕ) → List ℕ → List ℕ → Outcome
 outcome code d block output held =
     let m = proved d block (d .count) in
-    pick (eqb code 0) (answered held (openAnswer d block m) output (put output 0 (fileUpTo d block m)))
+    cond (eqb code 0) (answered held (openAnswer d block m) output (put output 0 (fileUpTo d block m)))
     (answered held (refused code) output output)
 
 module _ (image approved : List ℕ) (expected : ℕ) (output held : List ℕ) where
@@ -51,7 +51,7 @@ given a lent = record { code = a .code; answer = recordBytes a; lent = lent }
 
 pub answered-whole : (held : List ℕ) (a : Answer) (before after : List ℕ) → length held ≡ 40 → answered held a before after ≡ given a after
 answered-whole held a before after e =
-    ap (λ (b : Bool). pick b (given a after) (record { code = 1; answer = held; lent = before })) (eq-eqb (length held) 40 e)
+    ap (λ (b : Bool). cond b (given a after) (record { code = 1; answer = held; lent = before })) (eq-eqb (length held) 40 e)
 
 -- the answer of open where so many bytes are copied out and all is done
 abbrev pub doneAnswer : ℕ → Answer
@@ -62,8 +62,8 @@ module _ (d : Header) (block : ℕ → List ℕ) where
   answer-done m e =
       ap₂
       (λ (b : Bool) (k : ℕ). record {
-        code = pick b 0 (blockCode d block m);
-        place = pick b 0 (suc m);
+        code = cond b 0 (blockCode d block m);
+        place = cond b 0 (suc m);
         commands = 0;
         stored = length (fileUpTo d block k);
         entry = 0;
@@ -148,19 +148,19 @@ module _ (code : ℕ) (d : Header) (block : ℕ → List ℕ) (output held : Lis
     where
       go : (a b : Bool) → eqb code 0 ≡ a → eqb (length held) 40 ≡ b
           → Way code d block output held
-          (pick a
-          (pick b (given (openAnswer d block m) (put output 0 (fileUpTo d block m))) (record { code = 1; answer = held; lent = output }))
-          (pick b (given (refused code) output) (record { code = 1; answer = held; lent = output })))
+          (cond a
+          (cond b (given (openAnswer d block m) (put output 0 (fileUpTo d block m))) (record { code = 1; answer = held; lent = output }))
+          (cond b (given (refused code) output) (record { code = 1; answer = held; lent = output })))
       go true true p q = proving (eqb-true (length held) 40 q) (eqb-true code 0 p) refl
       go false true p q = refusing (eqb-true (length held) 40 q) (eqb-false code 0 p) refl
       go true false p q = unwritten (eqb-false (length held) 40 q) refl
       go false false p q = unwritten (eqb-false (length held) 40 q) refl
 
   -- the code where blocks are looked at: 0 where all are proved, else the first bad one's
-  all-proved : pick (eqb m (d .count)) 0 (blockCode d block m) ≡ 0 → m ≡ d .count
+  all-proved : cond (eqb m (d .count)) 0 (blockCode d block m) ≡ 0 → m ≡ d .count
   all-proved e = go (eqb m (d .count)) refl e
     where
-      go : (b : Bool) → eqb m (d .count) ≡ b → pick b 0 (blockCode d block m) ≡ 0 → m ≡ d .count
+      go : (b : Bool) → eqb m (d .count) ≡ b → cond b 0 (blockCode d block m) ≡ 0 → m ≡ d .count
       go true p z = eqb-true m (d .count) p
       go false p z =
           let ne : (m ≡ d .count → ⊥) = eqb-false m (d .count) p in

@@ -1,6 +1,6 @@
 -- The blocks of an image that opens are those that pack makes of its file.
 use mathlib.Core.Path.{_≡_, sym, ap, ap₂, subst, _∙_}
-use mathlib.Core.Bool.{not}
+use mathlib.Core.Bool.{not, cond}
 use mathlib.Core.List.{List, [], _∷_, _++_, append-assoc}
 use Prim.Native.Nat.{ℕ, zero, suc, _+_, _-_, _*_, _/_, min, _≤_, _<_}
 use native.Mathlib.Nat.{zero-mul, suc-mul, le-of-lt, le-of-eq, mul-le-mul-right}
@@ -13,7 +13,7 @@ use Rattle.octets.specs.Parts.{part, put, Octets}
 use Rattle.octets.proofs.PartLaws.{length-part, length-put, drop-behind-put, octets-take}
 use Rattle.octets.proofs.TestLaws.{allZero-eq}
 use Rattle.answers.specs.Answers.{Outcome}
-use Rattle.answers.specs.Rules.{pick, Rule, rule, firstBroken}
+use Rattle.answers.specs.Rules.{Rule, rule, firstBroken}
 use Rattle.answers.proofs.RuleLaws.{zero-all-hold}
 use Rattle.chain.specs.Blocks.{hashField, expected, proved, fileUpTo}
 use Rattle.chain.specs.Hashsum.{hashsum, sumLength}
@@ -244,7 +244,7 @@ module _ (image₀ approved : List ℕ) (signature : ℕ) (bytes : Octets image�
         → packed (orderOf d block) output ≡ record { code = 0; output = cleared image₀ approved }
     unfolding packed
     packed-again output e =
-        ap (λ (c : ℕ). record { code = c; output = pick (eqb c 0) (image (orderOf d block)) output })
+        ap (λ (c : ℕ). record { code = c; output = cond (eqb c 0) (image (orderOf d block)) output })
         (packable-passes (orderOf d block) (length output)
         (record {
           first = q .sound .first;

@@ -1,6 +1,6 @@
 -- Laws of open's loop: how far it has come, one more block, and what it answers.
 use mathlib.Core.Path.{_≡_, refl, sym, ap, ap₂, _∙_}
-use mathlib.Core.Bool.{Bool, not}
+use mathlib.Core.Bool.{Bool, not, cond}
 use mathlib.Core.List.{List, [], _∷_, _++_}
 use Prim.Native.Nat.{ℕ, zero, suc, _+_, _≤_, _<_}
 use native.Mathlib.Nat.{le-of-lt, le-antisymm}
@@ -12,7 +12,7 @@ use lib.ListN.{length, length-append}
 use Rattle.octets.specs.Parts.{put}
 use Rattle.answers.proofs.RuleLaws.{zero-all-hold}
 use Rattle.answers.specs.Answers.{Outcome, refused}
-use Rattle.answers.specs.Rules.{pick, rule, firstBroken, signatureRules, sizeRules}
+use Rattle.answers.specs.Rules.{rule, firstBroken, signatureRules, sizeRules}
 use Rattle.answers.specs.declared.Answer.{Answer}
 use Rattle.chain.specs.Blocks.{blockOf, blockCode, fileBytes, proved, fileUpTo}
 use Rattle.chain.specs.Code.{Passes, BlocksOpened}
@@ -51,8 +51,8 @@ module _ (image approved before : List ℕ) where
   answer : Bool → ℕ → Answer
   answer b k =
       record {
-        code = pick b 0 (blockCode d block k);
-        place = pick b 0 (suc k);
+        code = cond b 0 (blockCode d block k);
+        place = cond b 0 (suc k);
         commands = 0;
         stored = length (fileUpTo d block k);
         entry = 0;

@@ -1,6 +1,6 @@
 -- Laws of pack's code: that its numbers fit, that its stores leave the image, and that its answer is the first broken rule.
 use mathlib.Core.Path.{_≡_, refl, sym, ap, ap₂, subst, _∙_}
-use mathlib.Core.Bool.{Bool}
+use mathlib.Core.Bool.{Bool, cond}
 use mathlib.Core.List.{List, [], _∷_, _++_, append-nil}
 use Prim.Native.Nat.{ℕ, zero, suc, _+_, _-_, _*_, _/_, _^_, _≤_, _<_}
 use native.Mathlib.Nat.{zero-mul, suc-mul, sub-zero, mul-le-mul-left, mul-le-mul-right}
@@ -13,7 +13,7 @@ use lib.Seq.{take-at}
 use Rattle.octets.specs.Numbers.{littleBytes}
 use Rattle.octets.specs.Parts.{part, put}
 use Rattle.octets.proofs.PartLaws.{length-part, length-put, drop-behind-put}
-use Rattle.answers.specs.Rules.{pick, firstBroken, signatureRules}
+use Rattle.answers.specs.Rules.{firstBroken, signatureRules}
 use Rattle.answers.proofs.RuleLaws.{AllHold, zero-all-hold}
 use Rattle.chain.specs.Blocks.{paddingOf}
 use Rattle.chain.specs.Code.{headerWith, orderOf, Orderly, Planned, Written, Linkable, firstBlock, imageLengthOf, linkBefore}
@@ -239,10 +239,10 @@ module _ (h : Fields) (k : ℕ) (s : List ℕ) where
   link-of-block e = simp (ne-eqb k (h .count) e)
 
 -- only the first block has padding
-front-or-none : (k q pad r : ℕ) → q ≡ pick (eqb k 0) pad 0 → pad < r → (q ≤ pad) × (pad ≤ k * r + q) × (k * r + q - pad ≡ k * r - pad)
+front-or-none : (k q pad r : ℕ) → q ≡ cond (eqb k 0) pad 0 → pad < r → (q ≤ pad) × (pad ≤ k * r + q) × (k * r + q - pad ≡ k * r - pad)
 front-or-none zero q pad r e l = let z : 0 * r ≡ 0 = zero-mul r in (omega arith, omega arith, omega arith)
 front-or-none (suc k) q pad r e l =
-    let z : q ≡ 0 = e ∙ ap (λ (b : Bool). pick b pad 0) (eqb·suc-zero k) in
+    let z : q ≡ 0 = e ∙ ap (λ (b : Bool). cond b pad 0) (eqb·suc-zero k) in
     let m : suc k * r ≡ k * r + r = suc-mul k r in
     (omega arith, omega arith, omega arith)
 
@@ -270,7 +270,7 @@ module _ (file : List ℕ) (h : Fields) (n : ℕ) (pl : Plan file h n) where
       let b : k < blocks p = subst (λ (x : ℕ). k < x) (pl .count) l in
       let g : r ≡ room p = f ∙ ap (λ (x : ℕ). h .«block_size» - x) (pl .sum) in
       let kr : k * r ≡ k * room p = ap (λ (x : ℕ). k * x) g in
-      let qe : q ≡ paddingOf (packedHeader p) k = e ∙ ap (λ (x : ℕ). pick (eqb k 0) x 0) d in
+      let qe : q ≡ paddingOf (packedHeader p) k = e ∙ ap (λ (x : ℕ). cond (eqb k 0) x 0) d in
       let less : padding p < room p = padding-small p ok in
       let at = front-or-none k q (h .padding) r e (omega arith) in
       let from : k * room p - padding p ≡ k * r + q - h .padding = sym (at .2 ∙ ap₂ (λ (x y : ℕ). x - y) kr d) in
@@ -396,14 +396,14 @@ module _ (file : List ℕ) (h : Fields) (n : ℕ) (pl : Plan file h n) where
 -- ---- what pack leaves
 
 module _ (p : Order) (s : List ℕ) (code : ℕ) (e : code ≡ firstBroken (packRules p (length s))) where
-  judged : packed p s ≡ record { code = code; output = pick (eqb code 0) (image p) s }
+  judged : packed p s ≡ record { code = code; output = cond (eqb code 0) (image p) s }
   unfolding packed
-  judged = λ i. record { code = sym e i; output = pick (eqb (sym e i) 0) (image p) s }
+  judged = λ i. record { code = sym e i; output = cond (eqb (sym e i) 0) (image p) s }
 
   pub pack-refused : (code ≡ 0 → ⊥) → packed p s ≡ record { code = code; output = s }
-  pack-refused z = judged ∙ ap (λ (b : Bool). record { code = code; output = pick b (image p) s }) (ne-eqb code 0 z)
+  pack-refused z = judged ∙ ap (λ (b : Bool). record { code = code; output = cond b (image p) s }) (ne-eqb code 0 z)
 
   pub pack-done : (u : List ℕ) → code ≡ 0 → u ≡ image p → packed p s ≡ record { code = 0; output = u }
   pack-done u z f =
-      judged ∙ ap (λ (b : Bool). record { code = code; output = pick b (image p) s }) (eq-eqb code 0 z)
+      judged ∙ ap (λ (b : Bool). record { code = code; output = cond b (image p) s }) (eq-eqb code 0 z)
       ∙ (λ i. record { code = z i; output = sym f i })

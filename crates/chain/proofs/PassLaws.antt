@@ -1,6 +1,6 @@
 -- What the code may do with an image that has passed, by the fields that it read: where its blocks and their file bytes lie.
 use mathlib.Core.Path.{_≡_, refl, sym, ap, ap₂, subst, _∙_}
-use mathlib.Core.Bool.{Bool, true, false}
+use mathlib.Core.Bool.{Bool, true, false, cond}
 use mathlib.Core.List.{List, []}
 use Prim.Native.Nat.{ℕ, zero, suc, _+_, _-_, _*_, _≤_, _<_}
 use native.Mathlib.Nat.{mul-le-mul-right, suc-mul}
@@ -11,7 +11,7 @@ use lib.ListN.{length, take, drop, length-drop}
 use lib.Seq.{take-all}
 use Rattle.octets.specs.Parts.{part}
 use Rattle.octets.proofs.PartLaws.{length-part}
-use Rattle.answers.specs.Rules.{pick, firstBroken}
+use Rattle.answers.specs.Rules.{firstBroken}
 use Rattle.chain.specs.Blocks.{blockOf, blockRules, blockCode, expected, hashField}
 use Rattle.chain.specs.Code.{Passes, HasBlock, Sized, headerWith}
 use Rattle.chain.specs.Header.{Header, headerOf, imageRules, streamRules, blocksStart, dataLength}
@@ -93,11 +93,11 @@ expected-before d block (suc k) n = let e : suc k - 1 ≡ k = omega arith in ap 
 module _ (image approved : List ℕ) (x code : ℕ) (e : code ≡ firstBroken (streamRules image approved x)) where
   pub starts-nowhere : (code ≡ 0 → ⊥) → fieldStart image approved x ≡ 0
   starts-nowhere n =
-      ap (λ (b : Bool). pick b (length approved) 0) (ne-eqb (firstBroken (streamRules image approved x)) 0 (λ z. n (e ∙ z)))
+      ap (λ (b : Bool). cond b (length approved) 0) (ne-eqb (firstBroken (streamRules image approved x)) 0 (λ z. n (e ∙ z)))
 
   pub starts-behind : code ≡ 0 → fieldStart image approved x ≡ length approved
   starts-behind z =
-      ap (λ (b : Bool). pick b (length approved) 0) (eq-eqb (firstBroken (streamRules image approved x)) 0 (sym e ∙ z))
+      ap (λ (b : Bool). cond b (length approved) 0) (eq-eqb (firstBroken (streamRules image approved x)) 0 (sym e ∙ z))
 
 -- the field is empty just where it begins nowhere, and it is the part of the image from there on
 module _ (image approved : List ℕ) (x : ℕ) where

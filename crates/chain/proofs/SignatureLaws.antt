@@ -1,6 +1,6 @@
 -- The signature field that is handed out, against the code that open gives.
 use mathlib.Core.Path.{_≡_, refl, sym, ap, subst, _∙_}
-use mathlib.Core.Bool.{Bool, true, false, not}
+use mathlib.Core.Bool.{Bool, true, false, not, cond}
 use mathlib.Core.List.{List, [], _∷_, _++_}
 use Prim.Native.Nat.{ℕ, _+_, _*_}
 use native.Mathlib.Omega.{arith}
@@ -10,7 +10,7 @@ use lib.ListN.{length}
 use Rattle.octets.specs.Parts.{part}
 use Rattle.octets.proofs.PartLaws.{length-part}
 use Rattle.answers.specs.Answers.{Outcome}
-use Rattle.answers.specs.Rules.{pick, Rule, rule, firstBroken}
+use Rattle.answers.specs.Rules.{Rule, rule, firstBroken}
 use Rattle.answers.proofs.RuleLaws.{first-broken-append}
 use Rattle.chain.specs.Header.{headerOf, fileLength, streamRules}
 use Rattle.chain.specs.Open.{opened, signatureField}
@@ -28,7 +28,7 @@ module _ (image approved : List ℕ) (signature : ℕ) where
 
   pub empty-field : (S ≡ 0 → ⊥) → signatureField image approved signature ≡ []
   empty-field ne =
-      ap (λ (b : Bool). pick b (part image (length approved) (headerOf approved .signature)) []) (ne-eqb S 0 ne)
+      ap (λ (b : Bool). cond b (part image (length approved) (headerOf approved .signature)) []) (ne-eqb S 0 ne)
 
   pub whole-field : S ≡ 0 → (signatureField image approved signature ≡ part image (length approved) signature)
       × (length (signatureField image approved signature) ≡ signature)
@@ -37,7 +37,7 @@ module _ (image approved : List ℕ) (signature : ℕ) where
       let s : headerOf approved .signature ≡ signature = q .sound .signature in
       let n : length image ≡ length approved + headerOf approved .signature + headerOf approved .count * headerOf approved .blockSize = q .exact in
       let f : signatureField image approved signature ≡ part image (length approved) signature =
-      ap (λ (b : Bool). pick b (part image (length approved) (headerOf approved .signature)) []) (eq-eqb S 0 e)
+      ap (λ (b : Bool). cond b (part image (length approved) (headerOf approved .signature)) []) (eq-eqb S 0 e)
       ∙ ap (λ (k : ℕ). part image (length approved) k) s in
       (f, ap length f ∙ length-part image (length approved) signature (omega arith))
 
@@ -57,7 +57,7 @@ module _ (image approved : List ℕ) (signature : ℕ) where
             subst (λ (c : ℕ). T (not (among early c)))
             (sym
             (first-broken-append (streamRules image approved signature) last tt
-            ∙ ap (λ (b : Bool). pick b (firstBroken last) S) (eq-eqb S 0 e)))
+            ∙ ap (λ (b : Bool). cond b (firstBroken last) S) (eq-eqb S 0 e)))
             (code-passes (λ (c : ℕ). not (among early c)) last tt tt)
 
         go : OpenWay image approved signature output held → T (not (among early (o .code)))
@@ -74,7 +74,7 @@ module _ (image approved : List ℕ) (signature : ℕ) where
         same : firstBroken (streamRules image approved signature ++ last) ≡ S
         same =
             first-broken-append (streamRules image approved signature) last tt
-            ∙ ap (λ (b : Bool). pick b (firstBroken last) S) (ne-eqb S 0 ne)
+            ∙ ap (λ (b : Bool). cond b (firstBroken last) S) (ne-eqb S 0 ne)
 
         early-code : T (among early S)
         early-code = not-none (among early) (streamRules image approved signature) tt ne

@@ -1,11 +1,11 @@
 -- The chain of blocks: what a block is judged by, how many are proved, and the file that they hold.
-use mathlib.Core.Bool.{Bool, true, false, not}
+use mathlib.Core.Bool.{Bool, true, false, not, cond}
 use mathlib.Core.List.{List, [], _∷_, _++_}
 use Prim.Native.Nat.{ℕ, zero, suc, _+_, _*_}
 use lib.Dec.{eqb}
 use lib.ListN.{take, drop}
 use Rattle.octets.specs.Parts.{part, same, allZero}
-use Rattle.answers.specs.Rules.{pick, Rule, rule, firstBroken}
+use Rattle.answers.specs.Rules.{Rule, rule, firstBroken}
 use Rattle.chain.specs.Hashsum.{hashsum}
 use Rattle.chain.specs.Header.{Header, headerOf, blocksStart}
 
@@ -15,14 +15,14 @@ hashField d block = take (d .hashsumLength) block
 
 -- padding is zero bytes at the front of the first block's data
 abbrev pub paddingOf : Header → ℕ → ℕ
-paddingOf d k = pick (eqb k 0) (d .padding) 0
+paddingOf d k = cond (eqb k 0) (d .padding) 0
 
 -- 13 hashsum differs; 14 padding not zero; 15 last hash field not zero
 abbrev pub blockRules : Header → ℕ → List ℕ → List ℕ → List Rule
 blockRules d k expected block =
     rule 13 (not (same (hashsum (d .ids) block) expected))
     ∷ rule 14 (not (allZero (part block (d .hashsumLength) (paddingOf d k))))
-    ∷ rule 15 (pick (eqb (suc k) (d .count)) (not (allZero (hashField d block))) false)
+    ∷ rule 15 (cond (eqb (suc k) (d .count)) (not (allZero (hashField d block))) false)
     ∷ []
 
 -- the file's bytes in a block: its data behind the padding
@@ -47,7 +47,7 @@ blockCode d block k = firstBroken (blockRules d k (expected d block k) (block k)
 unfoldable pub proved : Header → (ℕ → List ℕ) → ℕ → ℕ
 proved d block zero = zero
 proved d block (suc n) =
-    pick (eqb (proved d block n) n) (pick (eqb (blockCode d block n) 0) (suc n) n) (proved d block n)
+    cond (eqb (proved d block n) n) (cond (eqb (blockCode d block n) 0) (suc n) n) (proved d block n)
 
 -- the file's bytes in the first n blocks
 unfoldable pub fileUpTo : Header → (ℕ → List ℕ) → ℕ → List ℕ

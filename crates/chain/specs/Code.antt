@@ -1,10 +1,11 @@
 -- What the code's structs stand for.
+use mathlib.Core.Bool.{cond}
 use mathlib.Core.List.{List, _++_}
 use mathlib.Core.Path.{_≡_}
 use Prim.Native.Nat.{ℕ, _+_, _-_, _*_, _^_, _≤_, _<_}
 use lib.Dec.{eqb}
 use lib.ListN.{length, drop, replicate}
-use Rattle.answers.specs.Rules.{pick, firstBroken}
+use Rattle.answers.specs.Rules.{firstBroken}
 use Rattle.answers.specs.declared.Answer.{Answer}
 use Rattle.octets.specs.Parts.{part, put}
 use Rattle.chain.specs.Blocks.{blockOf, proved, fileUpTo}
@@ -90,7 +91,7 @@ Written file h k output = drop (firstBlock h + k * h .«block_size») output ≡
 -- the hash field before block k of what is written: that block's hashsum, and zero behind the last
 abbrev pub linkBefore : Fields → ℕ → List ℕ → List ℕ
 linkBefore h k output =
-    pick (eqb k (h .count)) (replicate (h .«hashsum_length») 0)
+    cond (eqb k (h .count)) (replicate (h .«hashsum_length») 0)
     (hashsum (h .ids) (part output (firstBlock h + k * h .«block_size») (h .«block_size»)))
 
 -- block k and a hash field at an offset lie in an output of n bytes

@@ -1,10 +1,10 @@
 -- Hashsums: the configured digests joined, lowest ID position first ("The signed header").
-use mathlib.Core.Bool.{Bool, true, false}
+use mathlib.Core.Bool.{Bool, true, false, cond}
 use mathlib.Core.List.{List, [], _∷_, _++_}
 use Prim.Native.Nat.{ℕ, _+_}
 use lib.Dec.{eqb}
 use lib.ListN.{getD}
-use Rattle.answers.specs.Rules.{pick, Rule, rule}
+use Rattle.answers.specs.Rules.{Rule, rule}
 use Rattle.hashes.specs.Digests.{digest, digestLength}
 
 -- the hashsum of some bytes, by a list of hash IDs; a 0 among them adds nothing
@@ -20,7 +20,7 @@ sumLength (id ∷ ids) = digestLength id + sumLength ids
 -- an ID is unknown if it is not 0, none, and has no digest
 unfoldable pub anyUnknown : List ℕ → Bool
 anyUnknown [] = false
-anyUnknown (id ∷ ids) = pick (eqb id 0) (anyUnknown ids) (pick (eqb (digestLength id) 0) true (anyUnknown ids))
+anyUnknown (id ∷ ids) = cond (eqb id 0) (anyUnknown ids) (cond (eqb (digestLength id) 0) true (anyUnknown ids))
 
 -- 6: hash ID unknown, or ID 1 zero
 abbrev pub idRules : List ℕ → List Rule

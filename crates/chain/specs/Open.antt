@@ -1,12 +1,12 @@
 -- Open: what it answers and leaves in its output; and the signature field, which is handed to the chip.
-use mathlib.Core.Bool.{not}
+use mathlib.Core.Bool.{not, cond}
 use mathlib.Core.List.{List, [], _∷_, _++_}
 use Prim.Native.Nat.{ℕ, suc}
 use lib.Dec.{eqb}
 use lib.ListN.{length}
 use Rattle.octets.specs.Parts.{part, put}
 use Rattle.answers.specs.Answers.{Outcome, answered, refused}
-use Rattle.answers.specs.Rules.{pick, Rule, rule, firstBroken}
+use Rattle.answers.specs.Rules.{Rule, rule, firstBroken}
 use Rattle.answers.specs.declared.Answer.{Answer}
 use Rattle.chain.specs.Blocks.{blockOf, blockCode, proved, fileUpTo}
 use Rattle.chain.specs.Header.{Header, headerOf, fileLength, streamRules}
@@ -20,8 +20,8 @@ openRules image approved expected output =
 abbrev pub openAnswer : Header → (ℕ → List ℕ) → ℕ → Answer
 openAnswer d block m =
     record {
-      code = pick (eqb m (d .count)) 0 (blockCode d block m);
-      place = pick (eqb m (d .count)) 0 (suc m);
+      code = cond (eqb m (d .count)) 0 (blockCode d block m);
+      place = cond (eqb m (d .count)) 0 (suc m);
       commands = 0;
       stored = length (fileUpTo d block m);
       entry = 0;
@@ -34,16 +34,16 @@ opened image approved expected output held =
     let d = headerOf approved in
     let block = blockOf image approved in
     let m = proved d block (d .count) in
-    pick (eqb code 0) (answered held (openAnswer d block m) output (put output 0 (fileUpTo d block m)))
+    cond (eqb code 0) (answered held (openAnswer d block m) output (put output 0 (fileUpTo d block m)))
     (answered held (refused code) output output)
 
 -- the image's bytes between header and first block; where open would give 1 or 4 to 12 the part is empty
 abbrev pub signatureField : List ℕ → List ℕ → ℕ → List ℕ
 signatureField image approved expected =
-    pick (eqb (firstBroken (streamRules image approved expected)) 0)
+    cond (eqb (firstBroken (streamRules image approved expected)) 0)
     (part image (length approved) (headerOf approved .signature)) []
 
 -- where it begins in the image; 0 where it is empty
 abbrev pub fieldStart : List ℕ → List ℕ → ℕ → ℕ
 fieldStart image approved expected =
-    pick (eqb (firstBroken (streamRules image approved expected)) 0) (length approved) 0
+    cond (eqb (firstBroken (streamRules image approved expected)) 0) (length approved) 0

@@ -1,11 +1,11 @@
 -- Pack: the image of a file, with a zeroed signature field.
-use mathlib.Core.Bool.{not}
+use mathlib.Core.Bool.{not, cond}
 use mathlib.Core.List.{List, [], _∷_, _++_}
 use Prim.Native.Nat.{ℕ, zero, suc, _+_, _-_, _*_, _/_}
 use lib.Dec.{eqb, leb, ltb}
 use lib.ListN.{length, replicate}
 use Rattle.octets.specs.Parts.{part}
-use Rattle.answers.specs.Rules.{pick, Rule, rule, firstBroken, signatureRules, sizeRules}
+use Rattle.answers.specs.Rules.{Rule, rule, firstBroken, signatureRules, sizeRules}
 use Rattle.chain.specs.Hashsum.{hashsum, sumLength, idRules}
 use Rattle.chain.specs.Header.{Header, headerMagic, headerSizeFor, headerBytes, blockSizeRules}
 
@@ -86,4 +86,4 @@ pub record Packed : Type 0 where
 unfoldable pub packed : Order → List ℕ → Packed
 packed p output =
     let code = firstBroken (packRules p (length output)) in
-    record { code = code; output = pick (eqb code 0) (image p) output }
+    record { code = code; output = cond (eqb code 0) (image p) output }

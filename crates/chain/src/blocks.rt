@@ -1,4 +1,4 @@
-ghost use mathlib.Core.Bool.{not, false};
+ghost use mathlib.Core.Bool.{not, false, cond};
 ghost use mathlib.Core.List.{[], _∷_};
 ghost use mathlib.Core.Path.{_≡_};
 ghost use Prim.Native.Nat.{suc, _+_, _≤_, _<_};
@@ -6,7 +6,7 @@ ghost use denote.Ref.{now};
 ghost use lib.ListN.{length};
 ghost use lib.Dec.{eqb};
 ghost use Rattle.octets.specs.Parts.{allZero};
-ghost use Rattle.answers.specs.Rules.{pick, rule, firstBroken};
+ghost use Rattle.answers.specs.Rules.{rule, firstBroken};
 ghost use Rattle.chain.specs.Blocks as spec;
 ghost use Rattle.chain.specs.Code.{HasBlock, headerWith};
 ghost use Rattle.chain.specs.Header.{headerOf};
@@ -89,7 +89,7 @@ fn first_broken(hash: bool, padding: bool, last: bool) -> u64
 // Whether block k may have its hash field: that of the last is zero.
 fn ends(h: Header, k: u64, block: &[u8]) -> bool
     requires { ⌜ (h .«hashsum_length» ≤ length (now block)) × (k < h .count) ⌝ }
-    ensures { λ r. ⌜ not r ≡ pick (eqb (suc k) (h .count)) (not (allZero (spec.hashField (headerWith h []) (now (block .entry))))) false ⌝ }
+    ensures { λ r. ⌜ not r ≡ cond (eqb (suc k) (h .count)) (not (allZero (spec.hashField (headerWith h []) (now (block .entry))))) false ⌝ }
 {
     if k + 1 != h.count as u64 {
         return true;

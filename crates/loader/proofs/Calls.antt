@@ -1,5 +1,5 @@
 -- Load beside open and a bare run: the calls agree.
-use mathlib.Core.Bool.{Bool, true, false, not, _||_}
+use mathlib.Core.Bool.{Bool, true, false, not, _||_, cond}
 use mathlib.Core.Path.{_≡_, refl, sym, ap, ap₂, subst, _∙_}
 use mathlib.Core.List.{List, [], _∷_, _++_}
 use mathlib.Core.Logic.{_⊎_, inl, inr, _≢_}
@@ -10,7 +10,7 @@ use lib.Dec.{T, T-not, eqb}
 use lib.ListN.{length, take, replicate, length-replicate}
 use Rattle.octets.specs.Parts.{put}
 use Rattle.answers.specs.Answers.{Outcome, answered, refused}
-use Rattle.answers.specs.Rules.{pick, Rule, rule, firstBroken, signatureRules, sizeRules}
+use Rattle.answers.specs.Rules.{Rule, rule, firstBroken, signatureRules, sizeRules}
 use Rattle.answers.specs.declared.Answer.{Answer}
 use Rattle.answers.proofs.RuleLaws.{numbered, first-broken-append, zero-all-hold}
 use Rattle.board.specs.Cpuid.{tableRules}
@@ -42,11 +42,11 @@ use Rattle.loader.specs.Load.{Offer, loadRules, header, block, job, prov
 -- ---- lists of rules, of which one part holds
 
 behind-holds : (xs ys : List Rule) → T (numbered xs) → firstBroken xs ≡ 0 → firstBroken (xs ++ ys) ≡ firstBroken ys
-behind-holds xs ys n e = first-broken-append xs ys n ∙ ap (λ (c : ℕ). pick (eqb c 0) (firstBroken ys) c) e
+behind-holds xs ys n e = first-broken-append xs ys n ∙ ap (λ (c : ℕ). cond (eqb c 0) (firstBroken ys) c) e
 
 holds-behind : (xs ys : List Rule) → firstBroken ys ≡ 0 → firstBroken (xs ++ ys) ≡ firstBroken xs
 holds-behind [] ys e = e
-holds-behind (r ∷ xs) ys e = ap (pick (r .broken) (r .code)) (holds-behind xs ys e)
+holds-behind (r ∷ xs) ys e = ap (cond (r .broken) (r .code)) (holds-behind xs ys e)
 
 -- ---- an image that opens
 
@@ -102,10 +102,10 @@ module _ (o : Offer) (h : Opens o) where
       let rest : List Rule = mapRules (o .map) memory ++ tableRules (o .table) in
       let image : List Rule = imageRules (o .image) (o .approved) (o .expected) in
       let r = both-hold first image tt (h .rules) in
-      ap (pick (not (eqb (o .mode) 32 || eqb (o .mode) 64)) 1)
+      ap (cond (not (eqb (o .mode) 32 || eqb (o .mode) 64)) 1)
       (behind-holds first (rest ++ image) tt (r .0)
       ∙ holds-behind rest image (r .1)
-      ∙ sym (ap (λ (b : Bool). pick b 1 (firstBroken rest)) (le-ltb (2 ^ 30) (length (file o)) file-small)))
+      ∙ sym (ap (λ (b : Bool). cond b 1 (firstBroken rest)) (le-ltb (2 ^ 30) (length (file o)) file-small)))
 
   -- the machine has stopped at the end of the file
   stopped-answer : loadAnswer o ≡ answerOr (stateAfter o (header o .count) .phase) 0 0 (stateAfter o (header o .count))
@@ -130,23 +130,23 @@ module _ (o : Offer) (h : Opens o) where
       answerAt : ℕ → ℕ → Answer
       answerAt c size =
           let end = ranBare (jobOf size (o .map) (o .table) (o .mode)) (file o) in
-          pick (eqb c 0) (answerOr (end .phase) 0 0 end) (refused c)
+          cond (eqb c 0) (answerOr (end .phase) 0 0 end) (refused c)
 
       storesAt : ℕ → ℕ → List Store
       storesAt c size =
           let j = jobOf size (o .map) (o .table) (o .mode) in
-          pick (eqb c 0) (trace j (begun j) (file o)) []
+          cond (eqb c 0) (trace j (begun j) (file o)) []
 
       answers : answerMade o n ≡ bareAnswer (file o) (o .map) (o .table) (o .mode) n
       answers =
           let c : ℕ = firstBroken (loadRules o n) in
-          ap (λ (a : Answer). pick (eqb c 0) a (refused c)) stopped-answer
+          ap (λ (a : Answer). cond (eqb c 0) a (refused c)) stopped-answer
           ∙ ap₂ answerAt (same-code n) (sym (whole-file o sound))
 
       made : storesMade o n ≡ bareStores (file o) (o .map) (o .table) (o .mode) n
       made =
           let c : ℕ = firstBroken (loadRules o n) in
-          ap (λ (k : ℕ). pick (eqb c 0) (storesAfter o k) []) (h .all)
+          ap (λ (k : ℕ). cond (eqb c 0) (storesAfter o k) []) (h .all)
           ∙ ap₂ storesAt (same-code n) (sym (whole-file o sound))
 
 -- ---- load of what the packer made, whatever the signature field then holds, is a bare run of the file
@@ -201,7 +201,7 @@ module _ (o : Offer) where
       let r = both-hold (modeRules (o .mode)) rest tt fits in
       behind-holds (modeRules (o .mode)) (first ++ rest ++ image) tt (r .0)
       ∙ first-broken-append first (rest ++ image) tt
-      ∙ ap (λ (c : ℕ). pick (eqb (firstBroken first) 0) c (firstBroken first)) (behind-holds rest image tt (r .1))
+      ∙ ap (λ (c : ℕ). cond (eqb (firstBroken first) 0) c (firstBroken first)) (behind-holds rest image tt (r .1))
       ∙ sym (first-broken-append first image tt)
 
   -- open's answer where it stops at a block
@@ -249,7 +249,7 @@ module _ (o : Offer) where
         same : openCode o output held ≡ stream
         same =
             first-broken-append (streamRules (o .image) (o .approved) (o .expected)) (lengthRule o output held) tt
-            ∙ ap (λ (b : Bool). pick b (firstBroken (lengthRule o output held)) stream) (ne-eqb stream 0 ne)
+            ∙ ap (λ (b : Bool). cond b (firstBroken (lengthRule o output held)) stream) (ne-eqb stream 0 ne)
 
         go : OpenWay (o .image) (o .approved) (o .expected) output held → call o output held .code ≡ stream
         go (unwritten l q) = absurd (l whole)
@@ -264,8 +264,8 @@ module _ (o : Offer) where
         go : (b : Bool) → eqb stream 0 ≡ b → answerMade o memory ≡ refused (call o output held .code)
         go true e = absurd (T-not (among headerCodes (call o output held .code)) (open-later (eqb-true stream 0 e)) t)
         go false e =
-            ap (λ (c : ℕ). pick (eqb c 0) (loadAnswer o) (refused c)) (same-early memory fits)
-            ∙ ap (λ (b : Bool). pick b (loadAnswer o) (refused stream)) e
+            ap (λ (c : ℕ). cond (eqb c 0) (loadAnswer o) (refused c)) (same-early memory fits)
+            ∙ ap (λ (b : Bool). cond b (loadAnswer o) (refused stream)) e
             ∙ ap refused (sym (open-sooner (eqb-false stream 0 e)))
 
     pub stops-at : T (among (13 ∷ 14 ∷ 15 ∷ []) (call o output held .code)) → StopsAt output held
@@ -280,7 +280,7 @@ module _ (o : Offer) where
         bad : ℕ
         bad = blockCode (header o) (block o) m
 
-        not-all : (b : Bool) → T (among (13 ∷ 14 ∷ 15 ∷ []) (pick b 0 bad)) → b ≡ false
+        not-all : (b : Bool) → T (among (13 ∷ 14 ∷ 15 ∷ []) (cond b 0 bad)) → b ≡ false
         not-all true z = absurd z
         not-all false z = refl
 
@@ -299,8 +299,8 @@ module _ (o : Offer) where
               rules = both-hold (streamRules (o .image) (o .approved) (o .expected)) (lengthRule o output held) tt c .0;
               some = omega (arith, proved-le (header o) (block o) n);
               tells = q;
-              code = ap (λ (b : Bool). pick b 0 bad) e;
-              place = ap (λ (b : Bool). pick b 0 (suc m)) e;
+              code = ap (λ (b : Bool). cond b 0 bad) e;
+              place = ap (λ (b : Bool). cond b 0 (suc m)) e;
             }
 
     pub stop-agrees : (memory : ℕ) → ArgumentsTaken o memory → StopsAt output held
@@ -315,7 +315,7 @@ module _ (o : Offer) where
         bytes = fileUpTo (header o) (block o) (provedBlocks o)
 
         made : answerMade o memory ≡ loadAnswer o
-        made = ap (λ (c : ℕ). pick (eqb c 0) (loadAnswer o) (refused c)) zero-code
+        made = ap (λ (c : ℕ). cond (eqb c 0) (loadAnswer o) (refused c)) zero-code
 
         refusal : (code place : ℕ) → ended o .phase ≡ Stopped code place → Ended (job o) (ended o) code → (16 ≤ code) × (code ≤ 27)
         refusal code place e (at-end z n f) =

@@ -1,5 +1,5 @@
 -- For each code of load an input that gives it.
-use mathlib.Core.Bool.{Bool, true, false}
+use mathlib.Core.Bool.{Bool, true, false, cond}
 use mathlib.Core.Path.{_≡_, refl, sym, ap, ap₂, subst, _∙_}
 use mathlib.Core.List.{List, [], _∷_, _++_, map}
 use mathlib.Core.Logic.{_≢_}
@@ -11,7 +11,7 @@ use lib.ListN.{length, getD, take, drop, replicate, length-replicate}
 use Rattle.octets.specs.Numbers.{little, littleBytes}
 use Rattle.octets.specs.Parts.{same, allZero}
 use Rattle.answers.specs.Answers.{Outcome, refused}
-use Rattle.answers.specs.Rules.{pick, firstBroken}
+use Rattle.answers.specs.Rules.{firstBroken}
 use Rattle.answers.specs.declared.Answer.{Answer}
 use Rattle.board.specs.Cpuid.{ascending}
 use Rattle.board.specs.Map.{ordered, total}
@@ -69,7 +69,7 @@ packedCase c =
 -- whether each file is packed
 abbrev allPacked : List bare.Case → Bool
 allPacked [] = true
-allPacked (c ∷ cs) = pick (eqb (firstBroken (packRules (orderOf c) (length (blank c)))) 0) (allPacked cs) false
+allPacked (c ∷ cs) = cond (eqb (firstBroken (packRules (orderOf c) (length (blank c)))) 0) (allPacked cs) false
 
 packed-returns : (c : bare.Case) → firstBroken (packRules (orderOf c) (length (blank c))) ≡ 0 → returned (packedCase c) ≡ bare.returned c
 unfolding packed
@@ -78,15 +78,15 @@ packed-returns c e =
     (load-of-pack (orderOf c) (blank c) refl e (packed (orderOf c) (blank c) .output) (record { size = refl; front = refl; rest = refl })
     (c .map) (c .table) (c .mode) (replicate (c .memory) 0) (replicate 40 0))
 
-pick-parts : (b c : Bool) → T (pick b c false) → T b × T c
-pick-parts true c t = (tt, t)
-pick-parts false c t = absurd t
+cond-parts : (b c : Bool) → T (cond b c false) → T b × T c
+cond-parts true c t = (tt, t)
+cond-parts false c t = absurd t
 
 all-packed : (cs : List bare.Case) → T (allPacked cs) → map returned (map packedCase cs) ≡ map bare.returned cs
 all-packed [] t = refl
 all-packed (c ∷ cs) t =
     let code = firstBroken (packRules (orderOf c) (length (blank c))) in
-    let p = pick-parts (eqb code 0) (allPacked cs) t in
+    let p = cond-parts (eqb code 0) (allPacked cs) t in
     ap₂ (λ (x : ℕ) (xs : List ℕ). x ∷ xs) (packed-returns c (eqb→eq code 0 (p .0))) (all-packed cs (p .1))
 
 abbrev packedCases : List Case
@@ -126,17 +126,17 @@ headerCase x = onUnit (x .image) (x .approved) (x .signature)
 -- whether each record has 40 bytes, and each code is one of the header's
 abbrev allWhole : List OpenCase → Bool
 allWhole [] = true
-allWhole (x ∷ xs) = pick (eqb (length (x .held)) 40) (allWhole xs) false
+allWhole (x ∷ xs) = cond (eqb (length (x .held)) 40) (allWhole xs) false
 
 abbrev allHeader : List ℕ → Bool
 allHeader [] = true
-allHeader (c ∷ cs) = pick (among headerCodes c) (allHeader cs) false
+allHeader (c ∷ cs) = cond (among headerCodes c) (allHeader cs) false
 
 all-header : (xs : List OpenCase) → T (allWhole xs) → T (allHeader (map openCode xs)) → map returned (map headerCase xs) ≡ map openCode xs
 all-header [] w t = refl
 all-header (x ∷ xs) w t =
-    let p = pick-parts (eqb (length (x .held)) 40) (allWhole xs) w in
-    let q = pick-parts (among headerCodes (openCode x)) (allHeader (map openCode xs)) t in
+    let p = cond-parts (eqb (length (x .held)) 40) (allWhole xs) w in
+    let q = cond-parts (among headerCodes (openCode x)) (allHeader (map openCode xs)) t in
     ap₂ (λ (c : ℕ) (cs : List ℕ). c ∷ cs)
     (ap (λ (y : Outcome). y .code) (load-answered (headerCase x .offer) (replicate 16 0) (replicate 40 0) (length-replicate {A = ℕ} 40 0))
     ∙ ap (λ (a : Answer). a .code)
@@ -162,9 +162,9 @@ module _ (o : Offer) (memory held : List ℕ) where
   first-bad whole taken some long code e ne =
       let bad : ℕ = blockCode (header o) (block o) 0 in
       ap (λ (x : Outcome). x .code) (load-answered o memory held whole)
-      ∙ ap (λ (c : ℕ). pick (eqb c 0) (loadAnswer o) (refused c) .code) taken
+      ∙ ap (λ (c : ℕ). cond (eqb c 0) (loadAnswer o) (refused c) .code) taken
       ∙ ap (λ (a : Answer). a .code) (bad-answers o 0 (omega (arith, proved-le (header o) (block o) 0)) some (λ z. ne (sym e ∙ z)) .answer)
-      ∙ ap (λ (b : Bool). answerOr (pick b (Stopped 16 0) Magic) bad 1 (stateAfter o 0) .code) (le-ltb (fileLength (header o)) 8 long)
+      ∙ ap (λ (b : Bool). answerOr (cond b (Stopped 16 0) Magic) bad 1 (stateAfter o 0) .code) (le-ltb (fileLength (header o)) 8 long)
       ∙ e
 
 -- one block of 41 bytes, with neither hash field nor data zero, and its hashsum

@@ -1,5 +1,5 @@
 -- Laws of the code: how far its loop over the blocks has come, one more block, and what it returns and leaves.
-use mathlib.Core.Bool.{Bool, true, false, true≢false}
+use mathlib.Core.Bool.{Bool, true, false, true≢false, cond}
 use mathlib.Core.Path.{_≡_, refl, sym, ap, ap₂, _∙_}
 use mathlib.Core.List.{List, []}
 use mathlib.Core.Logic.{_≢_}
@@ -11,7 +11,7 @@ use borrow.Author.Tests.{eq-eqb, ne-eqb}
 use lib.Dec.{eqb}
 use lib.ListN.{length}
 use Rattle.answers.specs.Answers.{refused, recordBytes}
-use Rattle.answers.specs.Rules.{pick, firstBroken}
+use Rattle.answers.specs.Rules.{firstBroken}
 use Rattle.answers.specs.declared.Answer.{Answer}
 use Rattle.board.specs.Map.{regions}
 use Rattle.chain.specs.Blocks.{blockCode, proved, fileUpTo, fileBytes}
@@ -37,8 +37,8 @@ running-bad p code k s e ne =
     (λ i. record { code = code; place = add-one k i; commands = s .tally .commands; stored = s .tally .stored; entry = entry i })
     ∙ by-phase p e
   where
-    entry : 0 ≡ pick (eqb code 0) (s .tally .entry) 0
-    entry = sym (ap (λ (b : Bool). pick b (s .tally .entry) 0) (ne-eqb code 0 ne))
+    entry : 0 ≡ cond (eqb code 0) (s .tally .entry) 0
+    entry = sym (ap (λ (b : Bool). cond b (s .tally .entry) 0) (ne-eqb code 0 ne))
 
     by-phase : (p : Phase) → isStopped p ≡ false → answerWith code (suc k) s ≡ answerOr p code (suc k) s
     by-phase Magic e = refl
@@ -159,7 +159,7 @@ module _ (o : Offer) (memory held : List ℕ) where
   pub load-unheld : length held ≢ 40 → loaded o memory held ≡ record { code = 1; answer = held; lent = memory }
   load-unheld n =
       load-is o memory held
-      ∙ ap (λ (b : Bool). pick b
+      ∙ ap (λ (b : Bool). cond b
       (record {
         code = answerMade o (length memory) .code;
         answer = recordBytes (answerMade o (length memory));
@@ -180,12 +180,12 @@ module _ (o : Offer) (memory held : List ℕ) where
     unfolding applied
     load-refuses n e =
         let f : eqb code 0 ≡ false = ne-eqb code 0 n in
-        returned memory (e ∙ sym (ap (λ (b : Bool). pick b (loadAnswer o) (refused code)) f))
-        (sym (ap (λ (b : Bool). applied (regions (o .map)) memory (pick b (stores o) [])) f))
+        returned memory (e ∙ sym (ap (λ (b : Bool). cond b (loadAnswer o) (refused code)) f))
+        (sym (ap (λ (b : Bool). applied (regions (o .map)) memory (cond b (stores o) [])) f))
 
     pub load-loads : code ≡ 0 → (m : List ℕ) → BlocksLoaded o memory a m
         → loaded o memory held ≡ record { code = r; answer = h; lent = m }
     load-loads z m w =
         let f : eqb code 0 ≡ true = eq-eqb code 0 z in
-        returned m (w .answered ∙ sym (ap (λ (b : Bool). pick b (loadAnswer o) (refused code)) f))
-        (w .stored ∙ sym (ap (λ (b : Bool). applied (regions (o .map)) memory (pick b (stores o) [])) f))
+        returned m (w .answered ∙ sym (ap (λ (b : Bool). cond b (loadAnswer o) (refused code)) f))
+        (w .stored ∙ sym (ap (λ (b : Bool). applied (regions (o .map)) memory (cond b (stores o) [])) f))

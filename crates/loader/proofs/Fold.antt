@@ -1,6 +1,6 @@
 -- Load block by block: what one more block does, and when the answer stands.
 use mathlib.Core.Path.{_≡_, refl, sym, ap, ap₂, subst, _∙_}
-use mathlib.Core.Bool.{Bool, false}
+use mathlib.Core.Bool.{Bool, false, cond}
 use mathlib.Core.List.{List, [], _++_, append-nil, append-assoc}
 use mathlib.Core.Logic.{_⊎_, inl, inr, ⊎-elim, _≢_}
 use Prim.Native.Nat.{ℕ, zero, suc, _+_, _≤_, _<_}
@@ -8,7 +8,6 @@ use native.Mathlib.Nat.{eq-or-lt-of-le}
 use native.Mathlib.Omega.{arith}
 use borrow.Author.Tests.{eqb-true, eqb-false}
 use lib.Dec.{eqb}
-use Rattle.answers.specs.Rules.{pick}
 use Rattle.answers.specs.declared.Answer.{Answer}
 use Rattle.chain.specs.Blocks.{blockCode, proved, fileUpTo, fileBytes}
 use Rattle.chain.proofs.BlockLaws.{file-more, proved-le, proved-more, stops, goes-on}
@@ -18,7 +17,7 @@ use Rattle.machine.specs.Machine.{State, Store, begun, run, trace, answerWith, 
 use Rattle.machine.specs.declared.Phase.{Phase}
 use Rattle.machine.specs.declared.Phase.the-variants.{Magic, Header, Parameters, Storing, Skipping, Stopped}
 use Rattle.machine.proofs.Runs.{run-append, trace-append, run-stopped, trace-stopped}
-use Rattle.machine.proofs.Standing.{Running, running-or-stopped, pick-cases}
+use Rattle.machine.proofs.Standing.{Running, running-or-stopped, cond-cases}
 use Rattle.loader.proofs.LoadLaws.{all-stopped, running-answer}
 use Rattle.loader.specs.Load.{Offer, header, block, job, stateAfter, storesAfter, provedBlocks, ended, stores, loadAnswer}
 
@@ -113,8 +112,8 @@ follow o (suc left) k s =
     let bytes = fileBytes (header o) k (block o k) in
     let code = blockCode (header o) (block o) k in
     let next = follow o left (suc k) (run (job o) s bytes) in
-    pick (isStopped (s .phase)) (record { answer = answerOr (s .phase) 0 0 s; stores = [] })
-    (pick (eqb code 0) (record { answer = next .answer; stores = trace (job o) s bytes ++ next .stores })
+    cond (isStopped (s .phase)) (record { answer = answerOr (s .phase) 0 0 s; stores = [] })
+    (cond (eqb code 0) (record { answer = next .answer; stores = trace (job o) s bytes ++ next .stores })
     (record { answer = answerWith code (suc k) s; stores = [] }))
 
 module _ (o : Offer) (q : Passed (o .image) (o .approved) (o .expected)) where
@@ -178,8 +177,8 @@ module _ (o : Offer) (q : Passed (o .image) (o .approved) (o .expected)) where
 
       here : Bool → Followed
       here b =
-          pick b (record { answer = answerOr (s .phase) 0 0 s; stores = [] })
-          (pick (eqb code 0) (record { answer = next .answer; stores = trace (job o) s bytes ++ next .stores })
+          cond b (record { answer = answerOr (s .phase) 0 0 s; stores = [] })
+          (cond (eqb code 0) (record { answer = next .answer; stores = trace (job o) s bytes ++ next .stores })
           (record { answer = answerWith code (suc k) s; stores = [] }))
 
       by-phase : Below → Running (s .phase) ⊎ ((c : ℕ) × (p : ℕ) × (s .phase ≡ Stopped c p)) → Follows k (here (isStopped (s .phase)))
@@ -187,7 +186,7 @@ module _ (o : Offer) (q : Passed (o .image) (o .approved) (o .expected)) where
           subst (λ (b : Bool). Follows k (here b)) (sym (ap isStopped end)) (stopped-follows k c p all (omega arith) end)
       by-phase on (inl r) =
           subst (λ (b : Bool). Follows k (here b)) (sym (running-on (s .phase) r))
-          (pick-cases (Follows k) (eqb code 0) _ _ (λ z. good on (eqb-true code 0 z)) (λ z. bad r (eqb-false code 0 z)))
+          (cond-cases (Follows k) (eqb code 0) _ _ (λ z. good on (eqb-true code 0 z)) (λ z. bad r (eqb-false code 0 z)))
 
   -- Load's answer and stores are those of the fold over all blocks.
   pub load-follows : follow o (header o .count) 0 (begun (job o)) ≡ record { answer = loadAnswer o; stores = stores o }

@@ -1,5 +1,5 @@
 -- Two images under one approved header: the stores of both, and that signature fields are not read.
-use mathlib.Core.Bool.{not}
+use mathlib.Core.Bool.{not, cond}
 use mathlib.Core.Path.{_≡_, refl, sym, ap, ap₂, _∙_}
 use mathlib.Core.List.{List, [], _∷_, _++_}
 use mathlib.Core.Logic.{_⊎_, inl, inr, ⊎-elim}
@@ -10,7 +10,7 @@ use lib.Dec.{eqb, ltb}
 use lib.ListN.{length, take, drop, take-append-drop}
 use Rattle.octets.specs.Parts.{same}
 use Rattle.answers.specs.Answers.{Outcome, answered, refused}
-use Rattle.answers.specs.Rules.{pick, Rule, rule, firstBroken, signatureRules, sizeRules}
+use Rattle.answers.specs.Rules.{Rule, rule, firstBroken, signatureRules, sizeRules}
 use Rattle.answers.specs.declared.Answer.{Answer}
 use Rattle.board.specs.Cpuid.{tableRules}
 use Rattle.board.specs.Map.{regions, mapRules, modeRules}
@@ -146,7 +146,7 @@ module _ (approved map table : List ℕ) (mode expected : ℕ) where
             split = stores-split;
             done = λ z. (
               trace-stopped theJob end′ behind e,
-              ap (λ (c : ℕ). pick (eqb c 0) (end′ .tally .entry) 0) z
+              ap (λ (c : ℕ). cond (eqb c 0) (end′ .tally .entry) 0) z
                   ∙ sym (ap (λ (s : State). s .tally .entry) (ends-on ∙ run-stopped theJob end′ behind e))
                   ∙ sym (ap (λ (x : Answer). x .entry) (first .answer)),
             );
@@ -182,7 +182,7 @@ module _ (approved map table : List ℕ) (mode expected : ℕ) where
       let m = proved d blocks (d .count) in
       let j = jobOf (fileLength d) map table mode in
       let end = run j (begun j) (fileUpTo d blocks m) in
-      pick (eqb code 0)
+      cond (eqb code 0)
       (answered held (answerOr (end .phase) (blockCode d blocks m) (suc m) end) memory
       (applied (regions map) memory (trace j (begun j) (fileUpTo d blocks m))))
       (answered held (refused code) memory memory)

@@ -1,5 +1,5 @@
 -- Load, taken apart: what passing its rules means, its answer and its stores, and the three ways that it goes.
-use mathlib.Core.Bool.{Bool, true, false}
+use mathlib.Core.Bool.{Bool, true, false, cond}
 use mathlib.Core.Path.{_≡_, refl, ap, subst, _∙_}
 use mathlib.Core.List.{List, [], _++_}
 use mathlib.Core.Logic.{_⊎_, inl, inr, _≢_}
@@ -11,7 +11,7 @@ use lib.Dec.{eqb, leb, leb→le, lit≤}
 use lib.ListN.{length}
 use Rattle.octets.proofs.PartLaws.{length-part}
 use Rattle.answers.specs.Answers.{Outcome, answered, refused, recordBytes}
-use Rattle.answers.specs.Rules.{pick, firstBroken, signatureRules, sizeRules}
+use Rattle.answers.specs.Rules.{firstBroken, signatureRules, sizeRules}
 use Rattle.answers.specs.declared.Answer.{Answer}
 use Rattle.answers.proofs.RuleLaws.{first-broken-has}
 use Rattle.board.specs.Cpuid.{tableRules}
@@ -27,7 +27,7 @@ use Rattle.machine.specs.Memory.{applied}
 use Rattle.machine.specs.declared.Phase.{Phase}
 use Rattle.machine.specs.declared.Phase.the-variants.{Magic, Header, Parameters, Storing, Skipping, Stopped}
 use Rattle.machine.proofs.ReachedLaws.{reached-ended, whole-stopped}
-use Rattle.machine.proofs.Standing.{Ended, Running, running-or-stopped, pick-cases}
+use Rattle.machine.proofs.Standing.{Ended, Running, running-or-stopped, cond-cases}
 use Rattle.loader.specs.Load.{Offer, loadRules, header, block, job, provedBlocks, ended, stores, stateAfter, loadAnswer, loaded}
 
 -- ---- what is offered, where 1 to 12 are not given
@@ -81,10 +81,10 @@ module _ (o : Offer) where
 abbrev pub answerMade : Offer → ℕ → Answer
 answerMade o memory =
     let code = firstBroken (loadRules o memory) in
-    pick (eqb code 0) (loadAnswer o) (refused code)
+    cond (eqb code 0) (loadAnswer o) (refused code)
 
 abbrev pub storesMade : Offer → ℕ → List Store
-storesMade o memory = pick (eqb (firstBroken (loadRules o memory)) 0) (stores o) []
+storesMade o memory = cond (eqb (firstBroken (loadRules o memory)) 0) (stores o) []
 
 pub load-is : (o : Offer) (memory held : List ℕ)
     → loaded o memory held
@@ -96,8 +96,8 @@ load-is o memory held = by-test (eqb code 0) (loadAnswer o) (refused code) (stor
     code = firstBroken (loadRules o (length memory))
 
     by-test : (b : Bool) (x y : Answer) (xs : List Store)
-        → pick b (answered held x memory (applied (regions (o .map)) memory xs)) (answered held y memory memory)
-        ≡ answered held (pick b x y) memory (applied (regions (o .map)) memory (pick b xs []))
+        → cond b (answered held x memory (applied (regions (o .map)) memory xs)) (answered held y memory memory)
+        ≡ answered held (cond b x y) memory (applied (regions (o .map)) memory (cond b xs []))
     by-test true x y xs = refl
     by-test false x y xs = refl
 
@@ -111,7 +111,7 @@ pub load-answered : (o : Offer) (memory held : List ℕ) → length held ≡ 40
     }
 load-answered o memory held fits =
     load-is o memory held
-    ∙ ap (λ (b : Bool). pick b whole (record { code = 1; answer = held; lent = memory })) (eq-eqb (length held) 40 fits)
+    ∙ ap (λ (b : Bool). cond b whole (record { code = 1; answer = held; lent = memory })) (eq-eqb (length held) 40 fits)
   where
     whole : Outcome
     whole =
@@ -124,7 +124,7 @@ load-answered o memory held fits =
 -- 0 is returned only where it is the answer
 pub answered-zero : (held : List ℕ) (a : Answer) (before after : List ℕ) → answered held a before after .code ≡ 0 → a .code ≡ 0
 answered-zero held a before after =
-    pick-cases (λ (x : Outcome). x .code ≡ 0 → a .code ≡ 0) (eqb (length held) 40) _ _ (λ e z. z) (λ e z. absurd (omega arith))
+    cond-cases (λ (x : Outcome). x .code ≡ 0 → a .code ≡ 0) (eqb (length held) 40) _ _ (λ e z. z) (λ e z. absurd (omega arith))
 
 -- ---- the three ways that load goes
 
@@ -191,6 +191,6 @@ module _ (o : Offer) where
           some-bad : provedBlocks o < header o .count
           some-bad = let n = not-all in omega (arith, proved-le (header o) (block o) (header o .count))
 
-      go : (b : Bool) → eqb code 0 ≡ b → P (pick b (loadAnswer o) (refused code)) (pick b (stores o) [])
+      go : (b : Bool) → eqb code 0 ≡ b → P (cond b (loadAnswer o) (refused code)) (cond b (stores o) [])
       go true e = looked (taken o memory (eqb-true code 0 e)) answer-ways
       go false e = f code (omega (arith, eqb-false code 0 e)) few

@@ -1,5 +1,5 @@
 -- Where a run stands in the file: the first byte of each command, and the place that a stop gives.
-use mathlib.Core.Bool.{Bool, false, true≢false}
+use mathlib.Core.Bool.{Bool, false, true≢false, cond}
 use mathlib.Core.Path.{_≡_, refl, sym, ap, subst, _∙_}
 use mathlib.Core.List.{List, [], _∷_, _++_}
 use mathlib.Core.Logic.{_⊎_, inl, inr, _≢_}
@@ -10,7 +10,7 @@ use borrow.Author.Tests.{eqb-true, eqb-false, ltb-false, lt-ltb, le-ltb, not-fal
 use lib.Dec.{T, eqb, ltb, lit≤}
 use lib.ListN.{length, length-append}
 use Rattle.octets.specs.Numbers.{little}
-use Rattle.answers.specs.Rules.{pick, Rule, firstBroken}
+use Rattle.answers.specs.Rules.{Rule, firstBroken}
 use Rattle.answers.proofs.RuleLaws.{numbered, AllHold, zero-all-hold, EachCode, first-broken-has}
 use Rattle.machine.specs.Commands.{commandOf, dataLength, address, fillCount, judgedBytes, unknown, wrongLength, headerRules, rangeRules, entryRules, checkRules}
 use Rattle.machine.specs.Machine.{
@@ -50,7 +50,7 @@ use Rattle.machine.specs.declared.Phase.the-variants.{Magic, Header, Parameters
 use Rattle.machine.specs.declared.Tally.{Tally}
 use Rattle.machine.proofs.History.{seen, doneBy, commandsDone}
 use Rattle.machine.proofs.ReachedLaws.{step-stands}
-use Rattle.machine.proofs.Standing.{Stands, Meant, Running, running-or-stopped, pick-cases, header-kept, stands-below, begun-stands}
+use Rattle.machine.proofs.Standing.{Stands, Meant, Running, running-or-stopped, cond-cases, header-kept, stands-below, begun-stands}
 
 -- how many bytes a command takes: its header and its data
 abbrev pub span : List ℕ → ℕ
@@ -92,10 +92,10 @@ begins-follows : (job : Job) (at n : ℕ) (s : State) → s .next ≡ at → s .
     → (begins job s .tally .commands ≡ n) × Follows job at (begins job s .phase) (begins job s)
 unfolding begins
 begins-follows job at n s here inside count =
-    pick-cases P (eqb (s .next) (job .fileLength)) _ _
-    (λ e. pick-cases P (s .tally .entered) _ _ (λ f. (count, done refl refl)) (λ f. (count, no-entry refl refl)))
+    cond-cases P (eqb (s .next) (job .fileLength)) _ _
+    (λ e. cond-cases P (s .tally .entered) _ _ (λ f. (count, done refl refl)) (λ f. (count, no-entry refl refl)))
     (λ e. let ne = eqb-false (s .next) (job .fileLength) e in
-    pick-cases P (ltb (job .fileLength - s .next) 16) _ _ (λ f. (count, by-command (lit≤ tt) (lit≤ tt) here (omega arith))) (λ f. (count, here)))
+    cond-cases P (ltb (job .fileLength - s .next) 16) _ _ (λ f. (count, by-command (lit≤ tt) (lit≤ tt) here (omega arith))) (λ f. (count, here)))
   where
     P : State → Type 0
     P t = (t .tally .commands ≡ n) × Follows job at (t .phase) t
@@ -112,7 +112,7 @@ module _ (job : Job) (at : ℕ) (u : State) (start : u .start ≡ at) (inside : 
   judged-goes : (c : List ℕ) (rs : List Rule) (t : Turn) → T (numbered rs) → EachCode (λ (n : ℕ). n ≢ 0 → (17 ≤ n) × (n ≤ 26)) rs
       → (AllHold rs → Goes job at c (u .tally) (t .state)) → Goes job at c (u .tally) (judged (firstBroken rs) u t .state)
   judged-goes c rs t n among f =
-      pick-cases (λ (t : Turn). Goes job at c (u .tally) (t .state)) (eqb (firstBroken rs) 0) _ _
+      cond-cases (λ (t : Turn). Goes job at c (u .tally) (t .state)) (eqb (firstBroken rs) 0) _ _
       (λ e. f (zero-all-hold rs n (eqb-true (firstBroken rs) 0 e)))
       (λ e. let b = first-broken-has (λ (n : ℕ). n ≢ 0 → (17 ≤ n) × (n ≤ 26)) rs (λ z. absurd (z refl)) among (eqb-false (firstBroken rs) 0 e) in
       inl (refl, by-command (b .0) (b .1) start inside))
@@ -125,7 +125,7 @@ module _ (job : Job) (at : ℕ) (u : State) (start : u .start ≡ at) (inside : 
   passed-goes Entry n d known here fits = inl (refl, start)
   passed-goes Check n d known here fits = inl (refl, start)
   passed-goes Skip n d known here fits =
-      pick-cases (λ (t : State). Goes job at (u .held) (u .tally) t) (eqb n 0) _ _
+      cond-cases (λ (t : State). Goes job at (u .held) (u .tally) t) (eqb n 0) _ _
       (λ e. finished-goes job at (u .tally) u refl (omega (arith, eqb-true n 0 e)) (omega arith))
       (λ e. inl (refl, (start, omega arith)))
   passed-goes Unknown n d known here fits = absurd (true≢false known)
@@ -149,7 +149,7 @@ module _ (job : Job) (at : ℕ) (u : State) (start : u .start ≡ at) (inside : 
         let j : judgedBytes (commandOf (u .held)) ≡ 8 = ap judgedBytes q in
         let long = ltb-false (dataLength (u .held)) 8 right in
         judged-goes (u .held) (rangeRules (job .unit) (address (u .held)) n) _ tt (λ z. (lit≤ tt, lit≤ tt), (λ z. (lit≤ tt, lit≤ tt), tt))
-        (λ h. pick-cases (λ (t : State). Goes job at (u .held) (u .tally) t) (eqb n 0) _ _
+        (λ h. cond-cases (λ (t : State). Goes job at (u .held) (u .tally) t) (eqb n 0) _ _
         (λ e. finished-goes job at (u .tally) u refl (omega (arith, eqb-true n 0 e)) (omega (arith, eqb-true n 0 e)))
         (λ e. inl (refl, (start, omega arith))))
     parameters-goes Fill q some right =
@@ -180,14 +180,14 @@ module _ (job : Job) (at : ℕ) (s : State) (b : ℕ) (below : s .next < job .fi
   react-goes : (p : Phase) → s .phase ≡ p → Meant job p s → Follows job at p s → Goes job at (seen p s b) (s .tally) (react p job s b .state)
   unfolding react magicRead
   react-goes Magic e m f =
-      pick-cases (λ (t : Turn). Goes job at [] (s .tally) (t .state)) (ltb (length (s .held ++ (b ∷ []))) 8) _ _
+      cond-cases (λ (t : Turn). Goes job at [] (s .tally) (t .state)) (ltb (length (s .held ++ (b ∷ []))) 8) _ _
       (λ q. inl (refl, rw e f))
-      (λ q. pick-cases (λ (t : State). Goes job at [] (s .tally) t) (eqb (little (s .held ++ (b ∷ []))) 0x8adc5fa2448cb65e) _ _
+      (λ q. cond-cases (λ (t : State). Goes job at [] (s .tally) t) (eqb (little (s .held ++ (b ∷ []))) 0x8adc5fa2448cb65e) _ _
       (λ r. inl (begins-follows job at (s .tally .commands) (kept b s) (omega (arith, longer, ltb-false (length (s .held ++ (b ∷ []))) 8 q)) (omega arith) refl))
       (λ r. inl (refl, no-magic refl refl)))
   react-goes Header e m f =
       let u = kept b s in
-      pick-cases (λ (t : Turn). Goes job at (u .held) (s .tally) (t .state)) (ltb (length (u .held)) 16) _ _
+      cond-cases (λ (t : Turn). Goes job at (u .held) (s .tally) (t .state)) (ltb (length (u .held)) 16) _ _
       (λ q. inl (refl, rw e f))
       (λ q. let long = ltb-false (length (u .held)) 16 q in
       header-goes job at u f (omega arith) (omega (arith, longer)) (omega (arith, longer)) (omega arith))
@@ -198,17 +198,17 @@ module _ (job : Job) (at : ℕ) (s : State) (b : ℕ) (below : s .next < job .fi
       let right : wrongLength k (dataLength (u .held)) ≡ false = rw (same .0, same .1) (m .3) in
       let fits : s .start + 16 + dataLength (u .held) ≤ job .fileLength = rw (same .1) (m .4) in
       let few : length (s .held) < 16 + judgedBytes k = omega (arith, m .2, ap judgedBytes (same .0)) in
-      pick-cases (λ (t : Turn). Goes job at (u .held) (s .tally) (t .state)) (ltb (length (u .held)) (16 + judgedBytes k)) _ _
+      cond-cases (λ (t : Turn). Goes job at (u .held) (s .tally) (t .state)) (ltb (length (u .held)) (16 + judgedBytes k)) _ _
       (λ q. inl (refl, rw e f))
       (λ q. let long = ltb-false (length (u .held)) (16 + judgedBytes k) q in
       parameters-goes job at u f (omega arith) (omega (arith, longer)) (omega arith) k refl (omega arith) right)
   react-goes (Storing a left) e m f =
       let u = used (tallied (withStored 1 (s .tally)) s) in
-      pick-cases (λ (t : State). Goes job at (s .held) (s .tally) t) (eqb left 1) _ _
+      cond-cases (λ (t : State). Goes job at (s .held) (s .tally) t) (eqb left 1) _ _
       (λ q. finished-goes job at (s .tally) u refl (omega (arith, eqb-true left 1 q)) (omega arith))
       (λ q. let n = eqb-false left 1 q in inl (refl, (f .0, omega arith)))
   react-goes (Skipping left) e m f =
-      pick-cases (λ (t : State). Goes job at (s .held) (s .tally) t) (eqb left 1) _ _
+      cond-cases (λ (t : State). Goes job at (s .held) (s .tally) t) (eqb left 1) _ _
       (λ q. finished-goes job at (s .tally) (used s) refl (omega (arith, eqb-true left 1 q)) (omega arith))
       (λ q. let n = eqb-false left 1 q in inl (refl, (f .0, omega arith)))
   react-goes (Stopped code place) e m f = inl (refl, rw e f)
@@ -240,10 +240,10 @@ module _ (job : Job) where
           → ((n : ℕ) → Follows job n (t .phase) t → Follows job (n + spans rest) (run job t xs .phase) (run job t xs))
           → Follows job (at + spans (doneBy job s x ++ rest)) (run job t xs .phase) (run job t xs)
       go (inl (count, g)) on =
-          subst (λ (d : Bool). Follows job (at + spans (pick d (seen (s .phase) s x ∷ []) [] ++ rest)) (run job t xs .phase) (run job t xs))
+          subst (λ (d : Bool). Follows job (at + spans (cond d (seen (s .phase) s x ∷ []) [] ++ rest)) (run job t xs .phase) (run job t xs))
           (sym (le-ltb (s .tally .commands) (t .tally .commands) (omega (arith, count)))) (on at g)
       go (inr (count, g)) on =
-          subst (λ (d : Bool). Follows job (at + spans (pick d (seen (s .phase) s x ∷ []) [] ++ rest)) (run job t xs .phase) (run job t xs))
+          subst (λ (d : Bool). Follows job (at + spans (cond d (seen (s .phase) s x ∷ []) [] ++ rest)) (run job t xs .phase) (run job t xs))
           (sym (lt-ltb (s .tally .commands) (t .tally .commands) (omega (arith, count))))
           (subst (λ (n : ℕ). Follows job n (run job t xs .phase) (run job t xs)) (omega arith) (on (at + span (seen (s .phase) s x)) g))
 
@@ -253,4 +253,4 @@ module _ (job : Job) where
   stop-placed bytes e =
       subst (λ (p : Phase). Follows job (firstByte job bytes) p (run job (begun job) bytes)) e
       (run-follows 8 (begun job) bytes (begun-stands job)
-      (pick-cases (λ (p : Phase). Follows job 8 p (begun job)) (ltb (job .fileLength) 8) _ _ (λ f. no-magic refl refl) (λ f. refl)))
+      (cond-cases (λ (p : Phase). Follows job 8 p (begun job)) (ltb (job .fileLength) 8) _ _ (λ f. no-magic refl refl) (λ f. refl)))

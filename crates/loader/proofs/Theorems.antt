@@ -1,5 +1,5 @@
 -- What load is held to, each under the sentence that it carries (document 01).
-use mathlib.Core.Bool.{Bool, _&&_}
+use mathlib.Core.Bool.{Bool, _&&_, cond}
 use mathlib.Core.Path.{_≡_, refl, sym, ap, _∙_}
 use mathlib.Core.List.{List, [], _∷_, map, List·Memᴰ, List·Memᴰ·not-nil}
 use mathlib.Core.Logic.{_⊎_, inl, inr, _≢_}
@@ -9,7 +9,7 @@ use borrow.Author.Tests.{ne-eqb, le-leb, lt-leb}
 use lib.Dec.{T, eqb, leb, lit≤}
 use lib.ListN.{length, take}
 use Rattle.answers.specs.Answers.{Outcome, refused, recordBytes}
-use Rattle.answers.specs.Rules.{pick, firstBroken}
+use Rattle.answers.specs.Rules.{firstBroken}
 use Rattle.answers.specs.declared.Answer.{Answer}
 use Rattle.answers.proofs.RecordLaws.{answered-alike}
 use Rattle.board.specs.Map.{regions, limit}
@@ -26,7 +26,7 @@ use Rattle.machine.specs.Bare.{runBare}
 use Rattle.machine.specs.Machine.{Store, begun, run, trace, answerWith}
 use Rattle.machine.specs.Memory.{applied}
 use Rattle.machine.specs.declared.Phase.the-variants.{Stopped}
-use Rattle.machine.proofs.Standing.{Ended, at-end, at-magic, at-command, Running, pick-cases}
+use Rattle.machine.proofs.Standing.{Ended, at-end, at-magic, at-command, Running, cond-cases}
 use Rattle.machine.proofs.Theorems.{store-inside, stored-counts-stores}
 use Rattle.loader.proofs.Calls.{file, open-gives, loads-as-bare, openTells, StopsAt, stops-at, RefusedEarlier, ArgumentsTaken, stop-agrees, headerCodes, header-agrees}
 use Rattle.loader.proofs.Calls as calls
@@ -58,7 +58,7 @@ module _ (o : Offer) where
   unfolding applied
   early-refusals-keep-memory memory held =
       rw (load-is o memory held)
-      (pick-cases (λ (x : Outcome). Early (x .code) → x .lent ≡ memory) (eqb (length held) 40) _ _
+      (cond-cases (λ (x : Outcome). Early (x .code) → x .lent ≡ memory) (eqb (length held) 40) _ _
       (λ e. load-cases o (λ (a : Answer) (xs : List Store). Early (a .code) → applied (regions (o .map)) memory xs ≡ memory) (length memory)
       (λ code l u n. refl)
       (λ t code place q r n. ap (applied (regions (o .map)) memory) (by-end code n r))
@@ -110,15 +110,15 @@ module _ (o : Offer) where
   pub refusal-has-no-entry : (memory : ℕ) → answerMade o memory .code ≢ 0 → answerMade o memory .entry ≡ 0
   refusal-has-no-entry memory =
       load-cases o (λ (a : Answer) (xs : List Store). a .code ≢ 0 → a .entry ≡ 0) memory (λ code l u n. refl)
-      (λ t code place e q n. ap (λ (b : Bool). pick b (ended o .tally .entry) 0) (ne-eqb code 0 n))
-      (λ t s r l u n. ap (λ (b : Bool). pick b (ended o .tally .entry) 0) (ne-eqb (badCode o) 0 n))
+      (λ t code place e q n. ap (λ (b : Bool). cond b (ended o .tally .entry) 0) (ne-eqb code 0 n))
+      (λ t s r l u n. ap (λ (b : Bool). cond b (ended o .tally .entry) 0) (ne-eqb (badCode o) 0 n))
 
   -- Place is the block number from 1 for 13 to 15, that of the first block that is not proved; the file offset of the
   -- command's first byte for 17 to 26, behind the magic and the commands done; the file length for 27; else 0.
   abbrev pub placeFor : ℕ → ℕ
   placeFor code =
-      pick (leb 13 code && leb code 15) (suc (provedBlocks o))
-      (pick (leb 17 code && leb code 26) (firstByte (job o) (provedBytes o)) (pick (eqb code 27) (fileLength (header o)) 0))
+      cond (leb 13 code && leb code 15) (suc (provedBlocks o))
+      (cond (leb 17 code && leb code 26) (firstByte (job o) (provedBytes o)) (cond (eqb code 27) (fileLength (header o)) 0))
 
   pub place-said : (memory : ℕ) → answerMade o memory .place ≡ placeFor (answerMade o memory .code)
   place-said memory =
@@ -171,11 +171,11 @@ module _ (o : Offer) where
       load-answered o memory held fits
       ∙ ap
       (λ (c : ℕ).
-      let a : Answer = pick (eqb c 0) (loadAnswer o) (refused c) in
+      let a : Answer = cond (eqb c 0) (loadAnswer o) (refused c) in
       record {
         code = a .code;
         answer = recordBytes a;
-        lent = applied (regions (o .map)) memory (pick (eqb c 0) (stores o) []);
+        lent = applied (regions (o .map)) memory (cond (eqb c 0) (stores o) []);
       })
       e
 
@@ -274,7 +274,7 @@ module _ (o : Offer) where
   pub load-codes : (memory held : List ℕ) → loaded o memory held .code ≤ 27
   load-codes memory held =
       rw (load-is o memory held)
-      (pick-cases (λ (x : Outcome). x .code ≤ 27) (eqb (length held) 40) _ _
+      (cond-cases (λ (x : Outcome). x .code ≤ 27) (eqb (length held) 40) _ _
       (λ e. load-cases o (λ (a : Answer) (xs : List Store). a .code ≤ 27) (length memory) (λ code l u. omega arith)
       (λ t code place q r. by-end code r)
       (λ t s r l u. omega arith))

@@ -1,10 +1,11 @@
 -- Load: the written machine run over the proved first part of the file ("The four jobs", "The numbered answers").
+use mathlib.Core.Bool.{cond}
 use mathlib.Core.List.{List, _++_}
 use Prim.Native.Nat.{ℕ, suc}
 use lib.Dec.{eqb}
 use lib.ListN.{length}
 use Rattle.answers.specs.Answers.{Outcome, answered, refused}
-use Rattle.answers.specs.Rules.{pick, Rule, firstBroken, signatureRules, sizeRules}
+use Rattle.answers.specs.Rules.{Rule, firstBroken, signatureRules, sizeRules}
 use Rattle.answers.specs.declared.Answer.{Answer}
 use Rattle.board.specs.Cpuid.{tableRules}
 use Rattle.board.specs.Map.{mapRules, modeRules}
@@ -68,5 +69,5 @@ loadAnswer o =
 unfoldable pub loaded : Offer → List ℕ → List ℕ → Outcome
 loaded o memory held =
     let code = firstBroken (loadRules o (length memory)) in
-    pick (eqb code 0) (answered held (loadAnswer o) memory (applied (job o .unit .map) memory (stores o)))
+    cond (eqb code 0) (answered held (loadAnswer o) memory (applied (job o .unit .map) memory (stores o)))
     (answered held (refused code) memory memory)

@@ -1,5 +1,5 @@
 -- Laws of what the code that runs bare returns and leaves.
-use mathlib.Core.Bool.{Bool, true, false}
+use mathlib.Core.Bool.{Bool, true, false, cond}
 use mathlib.Core.Path.{_≡_, refl, sym, ap, _∙_}
 use mathlib.Core.List.{List, [], _∷_, _++_}
 use Prim.Native.Nat.{ℕ}
@@ -8,7 +8,7 @@ use borrow.Author.Tests.{eq-eqb, ne-eqb, ltb-false}
 use lib.Dec.{T, eqb}
 use lib.ListN.{length}
 use Rattle.answers.specs.Answers.{Outcome, answered, refused, recordBytes}
-use Rattle.answers.specs.Rules.{pick, Rule, firstBroken, sizeRules}
+use Rattle.answers.specs.Rules.{Rule, firstBroken, sizeRules}
 use Rattle.answers.specs.declared.Answer.{Answer}
 use Rattle.answers.proofs.RuleLaws.{numbered, first-broken-append, zero-all-hold, all-hold-zero}
 use Rattle.board.specs.Cpuid.{tableRules}
@@ -24,11 +24,11 @@ use Rattle.machine.proofs.TurnLaws.{ready-begun}
 module _ (xs ys : List Rule) (n : T (numbered xs)) where
   pub rules-first : (firstBroken xs ≡ 0 → ⊥) → firstBroken xs ≡ firstBroken (xs ++ ys)
   rules-first h =
-      sym (first-broken-append xs ys n ∙ ap (λ (b : Bool). pick b (firstBroken ys) (firstBroken xs)) (ne-eqb (firstBroken xs) 0 h))
+      sym (first-broken-append xs ys n ∙ ap (λ (b : Bool). cond b (firstBroken ys) (firstBroken xs)) (ne-eqb (firstBroken xs) 0 h))
 
   pub rules-then : firstBroken xs ≡ 0 → firstBroken ys ≡ firstBroken (xs ++ ys)
   rules-then h =
-      sym (first-broken-append xs ys n ∙ ap (λ (b : Bool). pick b (firstBroken ys) (firstBroken xs)) (eq-eqb (firstBroken xs) 0 h))
+      sym (first-broken-append xs ys n ∙ ap (λ (b : Bool). cond b (firstBroken ys) (firstBroken xs)) (eq-eqb (firstBroken xs) 0 h))
 
 -- ---- a bare run
 
@@ -56,9 +56,9 @@ module _ (file map table : List ℕ) (mode : ℕ) where
         let job = jobOf (length file) map table mode in
         answered held (answerOr (ranBare job file .phase) 0 0 (ranBare job file)) memory (applied (regions map) memory (trace job (begun job) file))
 
-    both : (b c : Bool) (x y z : Outcome) → c ≡ false → pick b (pick c x z) (pick c y z) ≡ z
-    both true c x y z e = ap (λ (d : Bool). pick d x z) e
-    both false c x y z e = ap (λ (d : Bool). pick d y z) e
+    both : (b c : Bool) (x y z : Outcome) → c ≡ false → cond b (cond c x z) (cond c y z) ≡ z
+    both true c x y z e = ap (λ (d : Bool). cond d x z) e
+    both false c x y z e = ap (λ (d : Bool). cond d y z) e
 
     -- a record that isn't 40 bytes long
     pub bare-unheld : (length held ≡ 40 → ⊥) → left ≡ record { code = 1; answer = held; lent = memory }
@@ -68,13 +68,13 @@ module _ (file map table : List ℕ) (mode : ℕ) where
     module _ (fits : length held ≡ 40) {r : ℕ} {h : List ℕ} (a : Answer) (c : r ≡ a .code) (bytes : h ≡ recordBytes a) where
       writes : (after : List ℕ) {m : List ℕ} → m ≡ after → answered held a memory after ≡ record { code = r; answer = h; lent = m }
       writes after e =
-          ap (λ (b : Bool). pick b (record { code = a .code; answer = recordBytes a; lent = after }) (record { code = 1; answer = held; lent = memory })) (eq-eqb (length held) 40 fits)
+          ap (λ (b : Bool). cond b (record { code = a .code; answer = recordBytes a; lent = after }) (record { code = 1; answer = held; lent = memory })) (eq-eqb (length held) 40 fits)
           ∙ sym (λ i. record { code = c i; answer = bytes i; lent = e i })
 
       pub bare-refuses : (code ≡ 0 → ⊥) → a ≡ refused code → left ≡ record { code = r; answer = h; lent = memory }
       unfolding runBare
       bare-refuses n e =
-          ap (λ (b : Bool). pick b ran (answered held (refused code) memory memory)) (ne-eqb code 0 n)
+          ap (λ (b : Bool). cond b ran (answered held (refused code) memory memory)) (ne-eqb code 0 n)
           ∙ ap (λ (x : Answer). answered held x memory memory) (sym e) ∙ writes memory refl
 
       pub bare-runs : {end : State} {m : List ℕ} → code ≡ 0 → end ≡ ranBare (jobOf (length file) map table mode) file → a ≡ answerOr (end .phase) 0 0 end
@@ -84,5 +84,5 @@ module _ (file map table : List ℕ) (mode : ℕ) where
       bare-runs z e f m =
           let job = jobOf (length file) map table mode in
           let after = applied (regions map) memory (trace job (begun job) file) in
-          ap (λ (b : Bool). pick b ran (answered held (refused code) memory memory)) (eq-eqb code 0 z)
+          ap (λ (b : Bool). cond b ran (answered held (refused code) memory memory)) (eq-eqb code 0 z)
           ∙ ap (λ (x : Answer). answered held x memory after) (sym (f ∙ ap (λ (s : State). answerOr (s .phase) 0 0 s) e)) ∙ writes after m

@@ -1,5 +1,5 @@
 -- Running bare, taken apart: the answer and the stores, which need the memory's length alone, and the two ways that a run goes.
-use mathlib.Core.Bool.{Bool, true, false}
+use mathlib.Core.Bool.{Bool, true, false, cond}
 use mathlib.Core.Path.{_≡_, refl, ap, _∙_}
 use mathlib.Core.List.{List, []}
 use Prim.Native.Nat.{ℕ, _≤_}
@@ -8,7 +8,7 @@ use borrow.Author.Tests.{eqb-true, eqb-false, eq-eqb}
 use lib.Dec.{eqb, lit≤}
 use lib.ListN.{length}
 use Rattle.answers.specs.Answers.{Outcome, answered, refused, recordBytes}
-use Rattle.answers.specs.Rules.{pick, firstBroken}
+use Rattle.answers.specs.Rules.{firstBroken}
 use Rattle.answers.specs.declared.Answer.{Answer}
 use Rattle.answers.proofs.RuleLaws.{AllHold, zero-all-hold, all-hold-zero, first-broken-has}
 use Rattle.board.specs.Map.{regions, mapRules}
@@ -26,12 +26,12 @@ abbrev pub bareAnswer : List ℕ → List ℕ → List ℕ → ℕ → ℕ → A
 bareAnswer file map table mode memory =
     let code = firstBroken (bareRules file map table mode memory) in
     let end = ranBare (jobOf (length file) map table mode) file in
-    pick (eqb code 0) (answerOr (end .phase) 0 0 end) (refused code)
+    cond (eqb code 0) (answerOr (end .phase) 0 0 end) (refused code)
 
 abbrev pub bareStores : List ℕ → List ℕ → List ℕ → ℕ → ℕ → List Store
 bareStores file map table mode memory =
     let job = jobOf (length file) map table mode in
-    pick (eqb (firstBroken (bareRules file map table mode memory)) 0) (trace job (begun job) file) []
+    cond (eqb (firstBroken (bareRules file map table mode memory)) 0) (trace job (begun job) file) []
 
 -- the answer, and the memory that the stores leave, are what a bare run gives
 pub bare-is : (file map table : List ℕ) (mode : ℕ) (memory held : List ℕ)
@@ -46,8 +46,8 @@ bare-is file map table mode memory held =
     by-test (eqb code 0) (answerOr (end .phase) 0 0 end) (refused code) (trace job (begun job) file)
   where
     by-test : (b : Bool) (x y : Answer) (xs : List Store)
-        → pick b (answered held x memory (applied (regions map) memory xs)) (answered held y memory memory)
-        ≡ answered held (pick b x y) memory (applied (regions map) memory (pick b xs []))
+        → cond b (answered held x memory (applied (regions map) memory xs)) (answered held y memory memory)
+        ≡ answered held (cond b x y) memory (applied (regions map) memory (cond b xs []))
     by-test true x y xs = refl
     by-test false x y xs = refl
 
@@ -79,7 +79,7 @@ module _ (file map table : List ℕ) (mode : ℕ) where
           first-broken-has (λ (c : ℕ). c ≤ 3) (bareRules file map table mode memory) (lit≤ tt) (lit≤ tt, (lit≤ tt, (lit≤ tt, (lit≤ tt, (lit≤ tt, (lit≤ tt, (lit≤ tt, (lit≤ tt, (lit≤ tt, (lit≤ tt, (lit≤ tt, tt)))))))))))
 
       go : (b : Bool) → eqb code 0 ≡ b
-          → P (pick b (answerOr (bareEnd .phase) 0 0 bareEnd) (refused code)) (pick b (trace bareJob (begun bareJob) file) [])
+          → P (cond b (answerOr (bareEnd .phase) 0 0 bareEnd) (refused code)) (cond b (trace bareJob (begun bareJob) file) [])
       go true e =
           let (c, p, q, h) = bare-ended in
           rw (ap (λ (p : Phase). answerOr p 0 0 bareEnd) q)
@@ -104,7 +104,7 @@ pub bare-answered : (file map table : List ℕ) (mode : ℕ) (memory held : List
     }
 bare-answered file map table mode memory held fits =
     bare-is file map table mode memory held
-    ∙ ap (λ (b : Bool). pick b whole (record { code = 1; answer = held; lent = memory })) (eq-eqb (length held) 40 fits)
+    ∙ ap (λ (b : Bool). cond b whole (record { code = 1; answer = held; lent = memory })) (eq-eqb (length held) 40 fits)
   where
     whole : Outcome
     whole =

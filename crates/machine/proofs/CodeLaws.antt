@@ -1,6 +1,6 @@
 -- Laws that carry the code's loops and fields to the definitions.
 use mathlib.Core.Path.{_≡_, refl, sym, ap, ap₂, subst, _∙_}
-use mathlib.Core.Bool.{Bool, true, false, not}
+use mathlib.Core.Bool.{Bool, true, false, not, cond}
 use mathlib.Core.List.{List, [], _∷_, _++_}
 use Prim.Native.Nat.{ℕ, zero, suc, _+_, _-_, _≤_, _<_}
 use native.Mathlib.Numerals.{add-one}
@@ -13,7 +13,7 @@ use lib.Seq.{drop-cons, take-at, take-take}
 use Rattle.octets.specs.Numbers.{little}
 use Rattle.octets.specs.Parts.{part, put}
 use Rattle.octets.proofs.PartLaws.{part-of-take}
-use Rattle.answers.specs.Rules.{pick, firstBroken}
+use Rattle.answers.specs.Rules.{firstBroken}
 use Rattle.answers.proofs.RuleLaws.{zero-all-hold}
 use Rattle.board.specs.Board.{Board}
 use Rattle.board.specs.Cpuid.{lookup}
@@ -89,7 +89,7 @@ judged-few Unknown = lit≤ tt
 module _ (s : State) {code rules : ℕ} (same : code ≡ rules) (t : Turn) where
   pub judged-stops : (code ≡ 0 → ⊥) → judged rules s t ≡ still (stopped code (s .start) s)
   judged-stops n =
-      ap (λ (r : ℕ). judged r s t) (sym same) ∙ ap (λ (b : Bool). pick b t (still (stopped code (s .start) s))) (ne-eqb code 0 n)
+      ap (λ (r : ℕ). judged r s t) (sym same) ∙ ap (λ (b : Bool). cond b t (still (stopped code (s .start) s))) (ne-eqb code 0 n)
 
   pub judged-goes : code ≡ 0 → judged rules s t ≡ t
   judged-goes e = ap (λ (r : ℕ). judged r s t) (sym same ∙ e)
@@ -97,11 +97,11 @@ module _ (s : State) {code rules : ℕ} (same : code ≡ rules) (t : Turn) where
 module _ (job : Job) (s : State) where
   pub magic-passes : little (s .held) ≡ 0x8adc5fa2448cb65e → magicRead job s ≡ begins job s
   unfolding magicRead
-  magic-passes e = ap (λ (b : Bool). pick b (begins job s) (stopped 16 0 s)) (eq-eqb _ _ e)
+  magic-passes e = ap (λ (b : Bool). cond b (begins job s) (stopped 16 0 s)) (eq-eqb _ _ e)
 
   pub magic-differs : (little (s .held) ≡ 0x8adc5fa2448cb65e → ⊥) → magicRead job s ≡ stopped 16 0 s
   unfolding magicRead
-  magic-differs n = ap (λ (b : Bool). pick b (begins job s) (stopped 16 0 s)) (ne-eqb _ _ n)
+  magic-differs n = ap (λ (b : Bool). cond b (begins job s) (stopped 16 0 s)) (ne-eqb _ _ n)
 
   module _ {k : Command} {n code : ℕ} (id : k ≡ commandOf (s .held)) (len : n ≡ dataLength (s .held))
       (rules : code ≡ firstBroken (headerRules k n (job .fileLength - s .next))) where
@@ -120,11 +120,11 @@ module _ (job : Job) (s : State) where
 module _ (job : Job) (n : ℕ) (s : State) where
   pub skip-none : {k : Command} → k ≡ Skip → n ≡ 0 → passed job k n s ≡ finished job s
   unfolding passed
-  skip-none k e = ap (λ (j : Command). passed job j n s) k ∙ ap (λ (b : Bool). pick b (finished job s) (turnedTo (Skipping n) s)) (eq-eqb n 0 e)
+  skip-none k e = ap (λ (j : Command). passed job j n s) k ∙ ap (λ (b : Bool). cond b (finished job s) (turnedTo (Skipping n) s)) (eq-eqb n 0 e)
 
   pub skip-some : {k : Command} → k ≡ Skip → (n ≡ 0 → ⊥) → passed job k n s ≡ turnedTo (Skipping n) s
   unfolding passed
-  skip-some k e = ap (λ (j : Command). passed job j n s) k ∙ ap (λ (b : Bool). pick b (finished job s) (turnedTo (Skipping n) s)) (ne-eqb n 0 e)
+  skip-some k e = ap (λ (j : Command). passed job j n s) k ∙ ap (λ (b : Bool). cond b (finished job s) (turnedTo (Skipping n) s)) (ne-eqb n 0 e)
 
 -- ---- the rules in order, by the tests that the code made
 
@@ -171,11 +171,11 @@ module _ (job : Job) (s : State) {code : ℕ} where
     abbrev write-goes : Turn
     write-goes =
         let n = dataLength (s .held) - 8 in
-        still (pick (eqb n 0) (finished job s) (turnedTo (Storing (address (s .held)) n) s))
+        still (cond (eqb n 0) (finished job s) (turnedTo (Storing (address (s .held)) n) s))
 
-    write-picks : (b m : ℕ) → a ≡ b → n ≡ m → still (pick (eqb n 0) (finished job s) (turnedTo (Storing a n) s))
-        ≡ still (pick (eqb m 0) (finished job s) (turnedTo (Storing b m) s))
-    write-picks b m p q i = still (pick (eqb (q i) 0) (finished job s) (turnedTo (Storing (p i) (q i)) s))
+    write-picks : (b m : ℕ) → a ≡ b → n ≡ m → still (cond (eqb n 0) (finished job s) (turnedTo (Storing a n) s))
+        ≡ still (cond (eqb m 0) (finished job s) (turnedTo (Storing b m) s))
+    write-picks b m p q i = still (cond (eqb (q i) 0) (finished job s) (turnedTo (Storing (p i) (q i)) s))
 
     pub write-stops : (code ≡ 0 → ⊥) → writeRead job s ≡ still (stopped code (s .start) s)
     unfolding writeRead
@@ -185,13 +185,13 @@ module _ (job : Job) (s : State) {code : ℕ} where
     unfolding writeRead
     write-empty e z =
         judged-goes s write-rules write-goes e ∙ sym (write-picks (address (s .held)) (dataLength (s .held) - 8) at few)
-        ∙ ap (λ (b : Bool). still (pick b (finished job s) (turnedTo (Storing a n) s))) (eq-eqb n 0 z)
+        ∙ ap (λ (b : Bool). still (cond b (finished job s) (turnedTo (Storing a n) s))) (eq-eqb n 0 z)
 
     pub write-stores : code ≡ 0 → (n ≡ 0 → ⊥) → writeRead job s ≡ still (turnedTo (Storing a n) s)
     unfolding writeRead
     write-stores e z =
         judged-goes s write-rules write-goes e ∙ sym (write-picks (address (s .held)) (dataLength (s .held) - 8) at few)
-        ∙ ap (λ (b : Bool). still (pick b (finished job s) (turnedTo (Storing a n) s))) (ne-eqb n 0 z)
+        ∙ ap (λ (b : Bool). still (cond b (finished job s) (turnedTo (Storing a n) s))) (ne-eqb n 0 z)
 
   module _ {a : ℕ} (at : a ≡ address (s .held)) (rules : code ≡ firstBroken (entryRules (job .unit) a)) where
     entry-rules : code ≡ firstBroken (entryRules (job .unit) (address (s .held)))

@@ -1,5 +1,5 @@
 -- The commands that a run has done, and what the tally says of them.
-use mathlib.Core.Bool.{Bool, true, false, true≢false, false≢true}
+use mathlib.Core.Bool.{Bool, true, false, true≢false, false≢true, cond}
 use mathlib.Core.Path.{_≡_, refl, sym, ap, subst, _∙_}
 use mathlib.Core.List.{List, [], _∷_, _++_, List·Memᴰ, List·Memᴰ·not-nil, List·Memᴰ·cases-cons}
 use mathlib.Core.Logic.{_⊎_, inl, inr}
@@ -10,7 +10,7 @@ use borrow.Author.Tests.{lt-ltb, le-ltb}
 use lib.Dec.{eqb, ltb}
 use lib.ListN.{length, length-append}
 use Rattle.octets.specs.Numbers.{little}
-use Rattle.answers.specs.Rules.{pick, firstBroken}
+use Rattle.answers.specs.Rules.{firstBroken}
 use Rattle.machine.specs.Commands.{
   commandOf,
   dataLength,
@@ -59,7 +59,7 @@ use Rattle.machine.specs.declared.Tally.{Tally}
 use Rattle.machine.specs.declared.Phase.{Phase}
 use Rattle.machine.specs.declared.Phase.the-variants.{Magic, Header, Parameters, Storing, Skipping, Stopped}
 use Rattle.machine.proofs.ReachedLaws.{step-stands}
-use Rattle.machine.proofs.Standing.{Stands, Meant, pick-cases}
+use Rattle.machine.proofs.Standing.{Stands, Meant, cond-cases}
 
 -- ---- commands done
 
@@ -75,7 +75,7 @@ seen (Stopped code place) s b = []
 -- the command that b is the last byte of, if it is one's
 abbrev pub doneBy : Job → State → ℕ → List (List ℕ)
 doneBy job s b =
-    pick (ltb (s .tally .commands) (step job s b .state .tally .commands)) (seen (s .phase) s b ∷ []) []
+    cond (ltb (s .tally .commands) (step job s b .state .tally .commands)) (seen (s .phase) s b ∷ []) []
 
 -- the commands that the bytes finish, in order
 unfoldable pub commandsDone : Job → State → List ℕ → List (List ℕ)
@@ -93,19 +93,19 @@ isEntry Unknown = false
 -- the address of the last entry command of a list, a where there is none; whether there is one, f where there is none
 abbrev pub entryOf : List (List ℕ) → ℕ → ℕ
 entryOf [] a = a
-entryOf (c ∷ cs) a = entryOf cs (pick (isEntry (commandOf c)) (address c) a)
+entryOf (c ∷ cs) a = entryOf cs (cond (isEntry (commandOf c)) (address c) a)
 
 abbrev pub enteredBy : List (List ℕ) → Bool → Bool
 enteredBy [] f = f
-enteredBy (c ∷ cs) f = enteredBy cs (pick (isEntry (commandOf c)) true f)
+enteredBy (c ∷ cs) f = enteredBy cs (cond (isEntry (commandOf c)) true f)
 
 -- ---- what a turn tells of the command c
 
 -- what the tally becomes where c is done: as it was, but for the count and the last entry
 pub record Told (c : List ℕ) (t u : Tally) : Type 0 where
   pub count : u .commands ≡ suc (t .commands)
-  pub entry : u .entry ≡ pick (isEntry (commandOf c)) (address c) (t .entry)
-  pub entered : u .entered ≡ pick (isEntry (commandOf c)) true (t .entered)
+  pub entry : u .entry ≡ cond (isEntry (commandOf c)) (address c) (t .entry)
+  pub entered : u .entered ≡ cond (isEntry (commandOf c)) true (t .entered)
 
 pub record Untold (t u : Tally) : Type 0 where
   pub count : u .commands ≡ t .commands
@@ -121,29 +121,29 @@ untold c t = inl (record { count = refl; entry = refl; entered = refl })
 begins-tally : (job : Job) (s : State) → begins job s .tally ≡ s .tally
 unfolding begins
 begins-tally job s =
-    pick-cases P (eqb (s .next) (job .fileLength)) (pick (s .tally .entered) (stopped 0 0 s) (stopped 27 (job .fileLength) s)) (pick (ltb (job .fileLength - s .next) 16) (stopped 17 (s .next) s) (awaiting s))
-    (λ e. pick-cases P (s .tally .entered) (stopped 0 0 s) (stopped 27 (job .fileLength) s) (λ f. refl) (λ f. refl))
-    (λ e. pick-cases P (ltb (job .fileLength - s .next) 16) (stopped 17 (s .next) s) (awaiting s) (λ f. refl) (λ f. refl))
+    cond-cases P (eqb (s .next) (job .fileLength)) (cond (s .tally .entered) (stopped 0 0 s) (stopped 27 (job .fileLength) s)) (cond (ltb (job .fileLength - s .next) 16) (stopped 17 (s .next) s) (awaiting s))
+    (λ e. cond-cases P (s .tally .entered) (stopped 0 0 s) (stopped 27 (job .fileLength) s) (λ f. refl) (λ f. refl))
+    (λ e. cond-cases P (ltb (job .fileLength - s .next) 16) (stopped 17 (s .next) s) (awaiting s) (λ f. refl) (λ f. refl))
   where
     P : State → Type 0
     P t = t .tally ≡ s .tally
 
 -- the command held is done; f says whether it is an entry
 module _ (job : Job) (u : State) (before : Tally) (commands : u .tally .commands ≡ before .commands) where
-  finished-tells : (f : Bool) → isEntry (commandOf (u .held)) ≡ f → u .tally .entry ≡ pick f (address (u .held)) (before .entry)
-      → u .tally .entered ≡ pick f true (before .entered) → Tells (u .held) before (finished job u .tally)
+  finished-tells : (f : Bool) → isEntry (commandOf (u .held)) ≡ f → u .tally .entry ≡ cond f (address (u .held)) (before .entry)
+      → u .tally .entered ≡ cond f true (before .entered) → Tells (u .held) before (finished job u .tally)
   unfolding finished
   finished-tells f q entry entered =
       inr (subst (Told (u .held) before) (sym (begins-tally job (tallied (withCommand (u .tally)) u)))
       (record {
         count = ap suc commands;
-        entry = entry ∙ ap (λ (g : Bool). pick g (address (u .held)) (before .entry)) (sym q);
-        entered = entered ∙ ap (λ (g : Bool). pick g true (before .entered)) (sym q);
+        entry = entry ∙ ap (λ (g : Bool). cond g (address (u .held)) (before .entry)) (sym q);
+        entered = entered ∙ ap (λ (g : Bool). cond g true (before .entered)) (sym q);
       }))
 
 judged-tells : (c : List ℕ) (code : ℕ) (s : State) (t : Turn) → Tells c (s .tally) (t .state .tally) → Tells c (s .tally) (judged code s t .state .tally)
 judged-tells c code s t h =
-    pick-cases (λ (u : Turn). Tells c (s .tally) (u .state .tally)) (eqb code 0) t (still (stopped code (s .start) s)) (λ e. h)
+    cond-cases (λ (u : Turn). Tells c (s .tally) (u .state .tally)) (eqb code 0) t (still (stopped code (s .start) s)) (λ e. h)
     (λ e. untold c (s .tally))
 
 module _ (job : Job) (u : State) where
@@ -154,7 +154,7 @@ module _ (job : Job) (u : State) where
   passed-tells Entry n q = untold (u .held) (u .tally)
   passed-tells Check n q = untold (u .held) (u .tally)
   passed-tells Skip n q =
-      pick-cases (λ (t : State). Tells (u .held) (u .tally) (t .tally)) (eqb n 0) (finished job u) (turnedTo (Skipping n) u)
+      cond-cases (λ (t : State). Tells (u .held) (u .tally) (t .tally)) (eqb n 0) (finished job u) (turnedTo (Skipping n) u)
       (λ e. finished-tells job u (u .tally) refl false (ap isEntry q) refl refl) (λ e. untold (u .held) (u .tally))
   passed-tells Unknown n q = untold (u .held) (u .tally)
 
@@ -163,7 +163,7 @@ module _ (job : Job) (u : State) where
   parameters-tells Write q =
       let n = dataLength (u .held) - 8 in
       judged-tells (u .held) (firstBroken (rangeRules (job .unit) (address (u .held)) n)) u _
-      (pick-cases (λ (t : State). Tells (u .held) (u .tally) (t .tally)) (eqb n 0) (finished job u) (turnedTo (Storing (address (u .held)) n) u)
+      (cond-cases (λ (t : State). Tells (u .held) (u .tally) (t .tally)) (eqb n 0) (finished job u) (turnedTo (Storing (address (u .held)) n) u)
       (λ e. finished-tells job u (u .tally) refl false (ap isEntry q) refl refl) (λ e. untold (u .held) (u .tally)))
   parameters-tells Fill q =
       judged-tells (u .held) (firstBroken (rangeRules (job .unit) (address (u .held)) (fillCount (u .held)))) u _
@@ -180,20 +180,20 @@ module _ (job : Job) (u : State) where
 magic-tally : (job : Job) (s : State) → magicRead job s .tally ≡ s .tally
 unfolding magicRead
 magic-tally job s =
-    pick-cases (λ (t : State). t .tally ≡ s .tally) (eqb (little (s .held)) 0x8adc5fa2448cb65e) (begins job s) (stopped 16 0 s)
+    cond-cases (λ (t : State). t .tally ≡ s .tally) (eqb (little (s .held)) 0x8adc5fa2448cb65e) (begins job s) (stopped 16 0 s)
     (λ e. begins-tally job s) (λ e. refl)
 
 module _ (job : Job) (s : State) (b : ℕ) where
   gathered-tells : (c : List ℕ) (wanted : ℕ) (t : Turn) → Tells c (s .tally) (t .state .tally) → Tells c (s .tally) (gathered wanted (kept b s) t .state .tally)
   gathered-tells c wanted t h =
-      pick-cases (λ (u : Turn). Tells c (s .tally) (u .state .tally)) (ltb (length (s .held ++ (b ∷ []))) wanted) (still (kept b s)) t
+      cond-cases (λ (u : Turn). Tells c (s .tally) (u .state .tally)) (ltb (length (s .held ++ (b ∷ []))) wanted) (still (kept b s)) t
       (λ e. untold c (s .tally)) (λ e. h)
 
   -- the last byte of the data finishes the command
   last-tells : (left : ℕ) (p : Phase) (u : State) → u .tally .commands ≡ s .tally .commands → u .tally .entry ≡ s .tally .entry
       → u .tally .entered ≡ s .tally .entered → isEntry (commandOf (u .held)) ≡ false → Tells (u .held) (s .tally) (unlessLast job left p u .tally)
   last-tells left p u commands entry entered q =
-      pick-cases (λ (t : State). Tells (u .held) (s .tally) (t .tally)) (eqb left 1) (finished job u) (turnedTo p u)
+      cond-cases (λ (t : State). Tells (u .held) (s .tally) (t .tally)) (eqb left 1) (finished job u) (turnedTo p u)
       (λ e. finished-tells job u (s .tally) commands false q entry entered)
       (λ e. inl (record { count = commands; entry = entry; entered = entered }))
 
@@ -226,11 +226,11 @@ pub record Account (cs : List (List ℕ)) (t u : Tally) : Type 0 where
 
 entryOf-append : (cs ds : List (List ℕ)) (a : ℕ) → entryOf (cs ++ ds) a ≡ entryOf ds (entryOf cs a)
 entryOf-append [] ds a = refl
-entryOf-append (c ∷ cs) ds a = entryOf-append cs ds (pick (isEntry (commandOf c)) (address c) a)
+entryOf-append (c ∷ cs) ds a = entryOf-append cs ds (cond (isEntry (commandOf c)) (address c) a)
 
 enteredBy-append : (cs ds : List (List ℕ)) (f : Bool) → enteredBy (cs ++ ds) f ≡ enteredBy ds (enteredBy cs f)
 enteredBy-append [] ds f = refl
-enteredBy-append (c ∷ cs) ds f = enteredBy-append cs ds (pick (isEntry (commandOf c)) true f)
+enteredBy-append (c ∷ cs) ds f = enteredBy-append cs ds (cond (isEntry (commandOf c)) true f)
 
 account-append : (cs ds : List (List ℕ)) (t u v : Tally) → Account cs t u → Account ds u v → Account (cs ++ ds) t v
 account-append cs ds t u v g h =
@@ -240,12 +240,12 @@ account-append cs ds t u v g h =
       entered = h .entered ∙ ap (enteredBy ds) (g .entered) ∙ sym (enteredBy-append cs ds (t .entered));
     }
 
-account-one : (c : List ℕ) (t u : Tally) → Tells c t u → Account (pick (ltb (t .commands) (u .commands)) (c ∷ []) []) t u
+account-one : (c : List ℕ) (t u : Tally) → Tells c t u → Account (cond (ltb (t .commands) (u .commands)) (c ∷ []) []) t u
 account-one c t u (inl h) =
-    subst (λ (f : Bool). Account (pick f (c ∷ []) []) t u) (sym (le-ltb (t .commands) (u .commands) (omega (arith, h .count))))
+    subst (λ (f : Bool). Account (cond f (c ∷ []) []) t u) (sym (le-ltb (t .commands) (u .commands) (omega (arith, h .count))))
     (record { count = omega (arith, h .count); entry = h .entry; entered = h .entered })
 account-one c t u (inr h) =
-    subst (λ (f : Bool). Account (pick f (c ∷ []) []) t u) (sym (lt-ltb (t .commands) (u .commands) (omega (arith, h .count))))
+    subst (λ (f : Bool). Account (cond f (c ∷ []) []) t u) (sym (lt-ltb (t .commands) (u .commands) (omega (arith, h .count))))
     (record { count = omega (arith, h .count); entry = h .entry; entered = h .entered })
 
 pub run-account : (job : Job) (s : State) (xs : List ℕ) → Stands job s → Account (commandsDone job s xs) (s .tally) (run job s xs .tally)
@@ -282,16 +282,16 @@ is-entry Unknown e = absurd (false≢true e)
 entered-stays : (cs : List (List ℕ)) → enteredBy cs true ≡ true
 entered-stays [] = refl
 entered-stays (c ∷ cs) =
-    pick-cases (λ (f : Bool). enteredBy cs f ≡ true) (isEntry (commandOf c)) true true (λ e. entered-stays cs) (λ e. entered-stays cs)
+    cond-cases (λ (f : Bool). enteredBy cs f ≡ true) (isEntry (commandOf c)) true true (λ e. entered-stays cs) (λ e. entered-stays cs)
 
 -- a list in which nothing set an entry
 none-entered : (cs : List (List ℕ)) (a : ℕ) → enteredBy cs false ≡ false → (entryOf cs a ≡ a) × NoEntry cs
 none-entered [] a e = (refl, λ d m q. List·Memᴰ·not-nil m)
 none-entered (c ∷ cs) a e = go (isEntry (commandOf c)) refl e (none-entered cs a)
   where
-    go : (f : Bool) → isEntry (commandOf c) ≡ f → enteredBy cs (pick f true false) ≡ false
+    go : (f : Bool) → isEntry (commandOf c) ≡ f → enteredBy cs (cond f true false) ≡ false
         → (enteredBy cs false ≡ false → (entryOf cs a ≡ a) × NoEntry cs)
-        → (entryOf cs (pick (isEntry (commandOf c)) (address c) a) ≡ a) × NoEntry (c ∷ cs)
+        → (entryOf cs (cond (isEntry (commandOf c)) (address c) a) ≡ a) × NoEntry (c ∷ cs)
     go true q z below = absurd (true≢false (sym (entered-stays cs) ∙ z))
     go false q z below =
         (rw q (below z .0), λ d m k. member d k (List·Memᴰ·cases-cons m))
@@ -306,11 +306,11 @@ last-entry [] a e = absurd (false≢true e)
 last-entry (c ∷ cs) a e =
     go (isEntry (commandOf c)) refl (enteredBy cs false) refl e (λ (b : ℕ). last-entry cs b)
   where
-    go : (f : Bool) → isEntry (commandOf c) ≡ f → (g : Bool) → enteredBy cs false ≡ g → enteredBy cs (pick f true false) ≡ true
+    go : (f : Bool) → isEntry (commandOf c) ≡ f → (g : Bool) → enteredBy cs false ≡ g → enteredBy cs (cond f true false) ≡ true
         → ((b : ℕ) → enteredBy cs false ≡ true → (d : List ℕ) × LastEntry cs d × (entryOf cs b ≡ address d))
-        → (d : List ℕ) × LastEntry (c ∷ cs) d × (entryOf cs (pick (isEntry (commandOf c)) (address c) a) ≡ address d)
+        → (d : List ℕ) × LastEntry (c ∷ cs) d × (entryOf cs (cond (isEntry (commandOf c)) (address c) a) ≡ address d)
     go f q true g z below =
-        let (d, l, e) = below (pick (isEntry (commandOf c)) (address c) a) g in
+        let (d, l, e) = below (cond (isEntry (commandOf c)) (address c) a) g in
         (d, record { before = c ∷ l .before; behind = l .behind; split = ap (λ (r : List (List ℕ)). c ∷ r) (l .split); is = l .is; last = l .last }, e)
     go true q false g z below =
         let none = none-entered cs (address c) g in

@@ -1,5 +1,5 @@
 -- Many bytes at once: what the bytes of one phase do together, as the steps over them one by one.
-use mathlib.Core.Bool.{Bool}
+use mathlib.Core.Bool.{Bool, cond}
 use mathlib.Core.Path.{_≡_, refl, sym, ap, _∙_}
 use mathlib.Core.List.{List, [], _∷_, _++_, append-nil}
 use Prim.Native.Nat.{ℕ, zero, suc, pred, _+_, _-_, _≤_, _<_}
@@ -9,7 +9,6 @@ use lib.Dec.{eqb, eqb·suc-suc}
 use lib.ListN.{length, length-append}
 use lib.Seq.{append-snoc, take-append-le}
 use Rattle.octets.specs.Numbers.{little}
-use Rattle.answers.specs.Rules.{pick}
 use Rattle.machine.specs.Code.{over, keptAll, wanted, reads, landed}
 use Rattle.machine.specs.Commands.{command, commandOf}
 use Rattle.machine.specs.Machine.{Job, State, Store, Turn, react, step, run, trace, still, kept, withStored, begins, finished, gathered, storesFrom}
@@ -82,7 +81,7 @@ module _ (job : Job) (p : Phase) (keeps : Keeps p) (w : ℕ) where
       over-one job s x ∙ step-keeps s x e (n (x ∷ [])) ∙ ap (λ (t : State). gathered w t (reads p job t)) (kept-one x s)
   over-kept s (x ∷ y ∷ ys) e n h l =
       over-cons job s x (y ∷ ys)
-      ∙ ap (λ (t : Turn). then job t (y ∷ ys)) (step-keeps s x e (n (x ∷ [])) ∙ ap (λ (t : Bool). pick t (still (kept x s)) (reads p job (kept x s))) (lt-ltb (length (s .held ++ (x ∷ []))) w (rw length-append (omega arith))))
+      ∙ ap (λ (t : Turn). then job t (y ∷ ys)) (step-keeps s x e (n (x ∷ [])) ∙ ap (λ (t : Bool). cond t (still (kept x s)) (reads p job (kept x s))) (lt-ltb (length (s .held ++ (x ∷ []))) w (rw length-append (omega arith))))
       ∙ over-kept (kept x s) (y ∷ ys) e (λ zs. ap (wanted p) (append-snoc (s .held) x zs) ∙ n (x ∷ zs)) (omega arith) (rw length-append (omega arith))
       ∙ ap (λ (t : State). gathered w t (reads p job t)) (kept-more x (y ∷ ys) s)
 

@@ -1,5 +1,5 @@
 -- Reserved bytes: a run does not depend on them.
-use mathlib.Core.Bool.{Bool, true, false, not}
+use mathlib.Core.Bool.{Bool, true, false, not, cond}
 use mathlib.Core.Path.{_≡_, refl, sym, ap, ap₂, subst, subst₂, subst₃, _∙_}
 use mathlib.Core.List.{List, [], _∷_, _++_}
 use mathlib.Core.Logic.{_⊎_, inl, inr}
@@ -10,7 +10,7 @@ use lib.Dec.{eqb, ltb, lit≤}
 use lib.ListN.{length, replicate, take, drop}
 use Rattle.octets.specs.Numbers.{little}
 use Rattle.octets.specs.Parts.{part}
-use Rattle.answers.specs.Rules.{pick, Rule, rule, firstBroken}
+use Rattle.answers.specs.Rules.{Rule, rule, firstBroken}
 use Rattle.board.specs.Board.{Board}
 use Rattle.board.specs.Cpuid.{lookup}
 use Rattle.machine.specs.Commands.{
@@ -197,18 +197,18 @@ held-refl (Storing a left) h = tt
 held-refl (Skipping left) h = tt
 held-refl (Stopped code place) h = tt
 
-pick-both : {A : Type 0} (R : A → A → Type 0) (b : Bool) (x y z w : A) → R x z → R y w → R (pick b x y) (pick b z w)
-pick-both R true x y z w f g = f
-pick-both R false x y z w f g = g
+cond-both : {A : Type 0} (R : A → A → Type 0) (b : Bool) (x y z w : A) → R x z → R y w → R (cond b x y) (cond b z w)
+cond-both R true x y z w f g = f
+cond-both R false x y z w f g = g
 
 begins-twin : (job : Job) (s : State) (k : List ℕ) → Twin (begins job s) (begins job (withHeld k s))
 unfolding begins
 begins-twin job s k =
     let t = withHeld k s in
-    pick-both Twin (eqb (s .next) (job .fileLength)) _ _ _ _
-    (pick-both Twin (s .tally .entered) (stopped 0 0 s) (stopped 27 (job .fileLength) s) (stopped 0 0 t) (stopped 27 (job .fileLength) t)
+    cond-both Twin (eqb (s .next) (job .fileLength)) _ _ _ _
+    (cond-both Twin (s .tally .entered) (stopped 0 0 s) (stopped 27 (job .fileLength) s) (stopped 0 0 t) (stopped 27 (job .fileLength) t)
     (k, refl, tt) (k, refl, tt))
-    (pick-both Twin (ltb (job .fileLength - s .next) 16) (stopped 17 (s .next) s) (awaiting s) (stopped 17 (s .next) t) (awaiting t)
+    (cond-both Twin (ltb (job .fileLength - s .next) 16) (stopped 17 (s .next) s) (awaiting s) (stopped 17 (s .next) t) (awaiting t)
     (k, refl, tt) ([], refl, tt))
 
 finished-twin : (job : Job) (s : State) (k : List ℕ) → Twin (finished job s) (finished job (withHeld k s))
@@ -217,7 +217,7 @@ finished-twin job s k = begins-twin job (tallied (withCommand (s .tally)) s) k
 
 judged-twin : (code : ℕ) (s : State) (k : List ℕ) (t u : Turn) → TwinTurn t u → TwinTurn (judged code s t) (judged code (withHeld k s) u)
 judged-twin code s k t u h =
-    pick-both TwinTurn (eqb code 0) t (still (stopped code (s .start) s)) u (still (stopped code (s .start) (withHeld k s))) h
+    cond-both TwinTurn (eqb code 0) t (still (stopped code (s .start) s)) u (still (stopped code (s .start) (withHeld k s))) h
     ((k, refl, tt), refl)
 
 -- ---- what a command's bytes say, by the fields that are read
@@ -227,7 +227,7 @@ headed job c n s = judged (firstBroken (headerRules c n (job .fileLength - s .ne
 
 written : Job → ℕ → ℕ → State → Turn
 written job a n s =
-    judged (firstBroken (rangeRules (job .unit) a n)) s (still (pick (eqb n 0) (finished job s) (turnedTo (Storing a n) s)))
+    judged (firstBroken (rangeRules (job .unit) a n)) s (still (cond (eqb n 0) (finished job s) (turnedTo (Storing a n) s)))
 
 filled : Job → ℕ → ℕ → ℕ → State → Turn
 filled job a n b s =
@@ -252,7 +252,7 @@ module _ (job : Job) (s : State) (k : List ℕ) (m : Matched 0 (s .held) k) (sam
   passed-twin Entry n = (k, refl, m)
   passed-twin Check n = (k, refl, m)
   passed-twin Skip n =
-      pick-both Twin (eqb n 0) (finished job s) (turnedTo (Skipping n) s) (finished job (withHeld k s)) (turnedTo (Skipping n) (withHeld k s))
+      cond-both Twin (eqb n 0) (finished job s) (turnedTo (Skipping n) s) (finished job (withHeld k s)) (turnedTo (Skipping n) (withHeld k s))
       (finished-twin job s k) (k, refl, tt)
   passed-twin Unknown n = (k, refl, same)
 
@@ -275,7 +275,7 @@ module _ (job : Job) (s : State) (k : List ℕ) (m : Matched 0 (s .held) k) (sam
       subst₂ (λ (b : ℕ) (l : ℕ). TwinTurn (written job a n s) (written job b (l - 8) t))
       (same-field (s .held) k m 16 8 (lit≤ tt) (lit≤ tt)) (same-field (s .held) k m 8 8 (lit≤ tt) (lit≤ tt))
       (judged-twin (firstBroken (rangeRules (job .unit) a n)) s k _ _ (
-        pick-both Twin (eqb n 0) (finished job s) (turnedTo (Storing a n) s) (finished job t) (turnedTo (Storing a n) t)
+        cond-both Twin (eqb n 0) (finished job s) (turnedTo (Storing a n) s) (finished job t) (turnedTo (Storing a n) t)
             (finished-twin job s k) (k, refl, tt),
         refl,
       ))
@@ -311,13 +311,13 @@ twin-refl t = ((t .state .held, refl, held-refl (t .state .phase) (t .state .hel
 gathered-twin : (wanted : ℕ) (u : State) (k : List ℕ) (t v : Turn) → Matched 0 (u .held) k → HeldAlike (u .phase) (u .held) k
     → TwinTurn t v → TwinTurn (gathered wanted u t) (gathered wanted (withHeld k u) v)
 gathered-twin wanted u k t v m same h =
-    subst (λ (n : ℕ). TwinTurn (gathered wanted u t) (pick (ltb n wanted) (still (withHeld k u)) v)) (matched-length 0 (u .held) k m)
-    (pick-both TwinTurn (ltb (length (u .held)) wanted) (still u) t (still (withHeld k u)) v ((k, refl, same), refl) h)
+    subst (λ (n : ℕ). TwinTurn (gathered wanted u t) (cond (ltb n wanted) (still (withHeld k u)) v)) (matched-length 0 (u .held) k m)
+    (cond-both TwinTurn (ltb (length (u .held)) wanted) (still u) t (still (withHeld k u)) v ((k, refl, same), refl) h)
 
 last-twin : (job : Job) (left : ℕ) (p : Phase) (s : State) (k : List ℕ) → HeldAlike p (s .held) k
     → Twin (unlessLast job left p s) (unlessLast job left p (withHeld k s))
 last-twin job left p s k h =
-    pick-both Twin (eqb left 1) (finished job s) (turnedTo p s) (finished job (withHeld k s)) (turnedTo p (withHeld k s)) (finished-twin job s k) (k, refl, h)
+    cond-both Twin (eqb left 1) (finished job s) (turnedTo p s) (finished job (withHeld k s)) (turnedTo p (withHeld k s)) (finished-twin job s k) (k, refl, h)
 
 module _ (job : Job) (s : State) (k : List ℕ) (x y : ℕ) where
   held-more : Matched 0 (s .held) k → (x ≡ y) ⊎ ReservedPlace (length (s .held)) → Matched 0 (s .held ++ (x ∷ [])) (k ++ (y ∷ []))

@@ -1,5 +1,5 @@
 -- What every state that a run comes to satisfies, and what each of its turns does.
-use mathlib.Core.Bool.{Bool, true, false, true≢false}
+use mathlib.Core.Bool.{Bool, true, false, true≢false, cond}
 use mathlib.Core.Path.{_≡_, refl, sym, ap, _∙_}
 use mathlib.Core.List.{List, [], _∷_, _++_}
 use mathlib.Core.Logic.{_⊎_, inl, inr}
@@ -11,7 +11,7 @@ use lib.Dec.{T, eqb, leb, ltb, lit≤}
 use lib.ListN.{length, replicate, take, drop, length-append, length-replicate, length-drop}
 use lib.Seq.{take-append-le, drop-append-le}
 use Rattle.octets.specs.Numbers.{little}
-use Rattle.answers.specs.Rules.{pick, Rule, firstBroken}
+use Rattle.answers.specs.Rules.{Rule, firstBroken}
 use Rattle.answers.proofs.RuleLaws.{numbered, AllHold, zero-all-hold, EachCode, first-broken-has}
 use Rattle.board.specs.Board.{Board}
 use Rattle.board.specs.Map.{Region, end, uncovered, ram, reachable}
@@ -117,9 +117,9 @@ pub record Proper (job : Job) (at : ℕ) (before : Tally) (t : Turn) : Type 0 wh
 
 -- ---- tests
 
-pub pick-cases : {A : Type 0} (P : A → Type 0) (b : Bool) (x y : A) → (b ≡ true → P x) → (b ≡ false → P y) → P (pick b x y)
-pick-cases P true x y f g = f refl
-pick-cases P false x y f g = g refl
+pub cond-cases : {A : Type 0} (P : A → Type 0) (b : Bool) (x y : A) → (b ≡ true → P x) → (b ≡ false → P y) → P (cond b x y)
+cond-cases P true x y f g = f refl
+cond-cases P false x y f g = g refl
 
 along-none : (unit : Board) → Along unit []
 unfolding storesFrom
@@ -142,7 +142,7 @@ module _ (job : Job) (u : State) (order : u .start ≤ u .next) where
   judged-proper : (rs : List Rule) (t : Turn) → T (numbered rs) → EachCode (λ (c : ℕ). ¬ (c ≡ 0) → (17 ≤ c) × (c ≤ 27)) rs
       → (AllHold rs → Proper job (u .next) (u .tally) t) → Proper job (u .next) (u .tally) (judged (firstBroken rs) u t)
   judged-proper rs t n among f =
-      pick-cases (Proper job (u .next) (u .tally)) (eqb (firstBroken rs) 0) _ _ (λ e. f (zero-all-hold rs n (eqb-true (firstBroken rs) 0 e)))
+      cond-cases (Proper job (u .next) (u .tally)) (eqb (firstBroken rs) 0) _ _ (λ e. f (zero-all-hold rs n (eqb-true (firstBroken rs) 0 e)))
       (λ e. turned-proper (Stopped (firstBroken rs) (u .start))
       (let c = first-broken-has (λ (c : ℕ). ¬ (c ≡ 0) → (17 ≤ c) × (c ≤ 27)) rs (λ z. absurd (z refl)) among (eqb-false (firstBroken rs) 0 e) in
       at-command (c .0) (c .1)))
@@ -153,11 +153,11 @@ module _ (job : Job) (u s : State) (xs : List Store) (next : s .next ≡ u .next
   begins-proper : s .tally .commands ≤ suc (u .tally .commands) → Proper job (u .next) (u .tally) (record { state = begins job s; stores = xs })
   unfolding begins
   begins-proper commands =
-      pick-cases (λ (t : State). Proper job (u .next) (u .tally) (record { state = t; stores = xs })) (eqb (s .next) (job .fileLength)) _ _
-      (λ e. pick-cases (λ (t : State). Proper job (u .next) (u .tally) (record { state = t; stores = xs })) (s .tally .entered) _ _
+      cond-cases (λ (t : State). Proper job (u .next) (u .tally) (record { state = t; stores = xs })) (eqb (s .next) (job .fileLength)) _ _
+      (λ e. cond-cases (λ (t : State). Proper job (u .next) (u .tally) (record { state = t; stores = xs })) (s .tally .entered) _ _
       (λ f. stops 0 0 (at-end refl (eqb-true (s .next) (job .fileLength) e) f))
       (λ f. stops 27 (job .fileLength) (at-command (lit≤ tt) (lit≤ tt))))
-      (λ e. pick-cases (λ (t : State). Proper job (u .next) (u .tally) (record { state = t; stores = xs })) (ltb (job .fileLength - s .next) 16) _ _
+      (λ e. cond-cases (λ (t : State). Proper job (u .next) (u .tally) (record { state = t; stores = xs })) (ltb (job .fileLength - s .next) 16) _ _
       (λ f. stops 17 (s .next) (at-command (lit≤ tt) (lit≤ tt)))
       (λ f. record {
         next = next;
@@ -189,7 +189,7 @@ module _ (job : Job) (u : State) (order : u .start ≤ u .next) where
   magic-proper : u .next ≤ job .fileLength → u .tally .stored ≡ 0 → Proper job (u .next) (u .tally) (still (magicRead job u))
   unfolding magicRead
   magic-proper inside none =
-      pick-cases (λ (t : State). Proper job (u .next) (u .tally) (still t)) (eqb (little (u .held)) 0x8adc5fa2448cb65e) _ _
+      cond-cases (λ (t : State). Proper job (u .next) (u .tally) (still t)) (eqb (little (u .held)) 0x8adc5fa2448cb65e) _ _
       (λ e. begins-proper job u u [] refl order inside (sym (add-zero (u .tally .stored))) (along-none (job .unit)) (omega arith))
       (λ e. turned-proper job u order (Stopped 16 0) (at-magic refl none))
 
@@ -208,7 +208,7 @@ module _ (job : Job) (u : State) (order : u .start ≤ u .next) where
     passed-proper Entry n q d known right fits = awaits Entry q (lit≤ tt) (rw d right) (rw d fits)
     passed-proper Check n q d known right fits = awaits Check q (lit≤ tt) (rw d right) (rw d fits)
     passed-proper Skip n q d known right fits =
-        pick-cases (λ (t : State). Proper job (u .next) (u .tally) (still t)) (eqb n 0) _ _
+        cond-cases (λ (t : State). Proper job (u .next) (u .tally) (still t)) (eqb n 0) _ _
         (λ e. finished-proper job u order (omega arith))
         (λ e. turned-proper job u order (Skipping n) (omega (arith, eqb-false n 0 e), fits, q))
     passed-proper Unknown n q d known right fits = absurd (true≢false known)
@@ -254,7 +254,7 @@ module _ (job : Job) (u : State) (order : u .start ≤ u .next) where
       let n = dataLength (u .held) - 8 in
       judged-proper job u order (rangeRules (job .unit) (address (u .held)) n) _ tt
       (λ z. (lit≤ tt, lit≤ tt), (λ z. (lit≤ tt, lit≤ tt), tt))
-      (λ h. pick-cases (λ (t : State). Proper job (u .next) (u .tally) (still t)) (eqb n 0) _ _
+      (λ h. cond-cases (λ (t : State). Proper job (u .next) (u .tally) (still t)) (eqb n 0) _ _
       (λ e. finished-proper job u order (omega arith))
       (λ e. let r = range-holds (job .unit) (address (u .held)) n h in
       turned-proper job u order (Storing (address (u .held)) n) (omega (arith, eqb-false n 0 e), fits, r .0, omega (arith, r .1), q)))
@@ -305,9 +305,9 @@ unfolding uncovered
 uncovered-rises [] a b h = h
 uncovered-rises (r ∷ rs) a b h =
     uncovered-rises rs _ _
-    (pick-cases (λ (x : ℕ). x ≤ pick (leb (r .base) b) (max b (end r)) b) (leb (r .base) a) _ _
+    (cond-cases (λ (x : ℕ). x ≤ cond (leb (r .base) b) (max b (end r)) b) (leb (r .base) a) _ _
     (λ e. rw (le-leb (r .base) b (omega (arith, leb-true (r .base) a e))) (omega arith))
-    (λ e. pick-cases (λ (x : ℕ). a ≤ x) (leb (r .base) b) _ _ (λ f. omega arith) (λ f. h)))
+    (λ e. cond-cases (λ (x : ℕ). a ≤ x) (leb (r .base) b) _ _ (λ f. omega arith) (λ f. h)))
 
 ram-next : (rs : List Region) (a n : ℕ) → 0 < n → ram rs a n ≡ true → ram rs (suc a) (pred n) ≡ true
 ram-next rs a n h r =
@@ -333,12 +333,12 @@ module _ (job : Job) (s : State) (b : ℕ) (order : s .start ≤ s .next) where
   react-proper : (p : Phase) → s .phase ≡ p → Running p → Meant job p s → after (react p job s b)
   unfolding react storesFrom
   react-proper Magic e r m =
-      pick-cases after (ltb (length (s .held ++ (b ∷ []))) 8) _ _
+      cond-cases after (ltb (length (s .held ++ (b ∷ []))) 8) _ _
       (λ f. turned-proper job (kept b s) (omega arith) (s .phase)
       (rw e (omega (arith, longer), omega (arith, longer, ltb-true (length (s .held ++ (b ∷ []))) 8 f), m .2, m .3)))
       (λ f. magic-proper job (kept b s) (omega arith) (omega arith) (m .3))
   react-proper Header e r m =
-      pick-cases after (ltb (length (s .held ++ (b ∷ []))) 16) _ _
+      cond-cases after (ltb (length (s .held ++ (b ∷ []))) 16) _ _
       (λ f. turned-proper job (kept b s) (omega arith) (s .phase)
       (rw e (omega (arith, longer), ltb-true (length (s .held ++ (b ∷ []))) 16 f, m .2)))
       (λ f. header-proper job (kept b s) (omega arith) (omega (arith, longer))
@@ -349,7 +349,7 @@ module _ (job : Job) (s : State) (b : ℕ) (order : s .start ≤ s .next) where
       let right : wrongLength k (dataLength (s .held ++ (b ∷ []))) ≡ false = rw (same .0, same .1) (m .3) in
       let room : s .start + 16 + dataLength (s .held ++ (b ∷ [])) ≤ job .fileLength = rw (same .1) (m .4) in
       let few : length (s .held) < 16 + judgedBytes k = omega (arith, m .2, ap judgedBytes (same .0)) in
-      pick-cases after (ltb (length (s .held ++ (b ∷ []))) (16 + judgedBytes k)) _ _
+      cond-cases after (ltb (length (s .held ++ (b ∷ []))) (16 + judgedBytes k)) _ _
       (λ f. turned-proper job (kept b s) (omega arith) (s .phase)
       (rw e (omega (arith, longer), omega (arith, longer), ltb-true (length (s .held ++ (b ∷ []))) (16 + judgedBytes k) f, right, room)))
       (λ f. parameters-proper job (kept b s) (omega arith)
@@ -360,7 +360,7 @@ module _ (job : Job) (s : State) (b : ℕ) (order : s .start ≤ s .next) where
       let x : Store = record { address = a; byte = b } in
       let along : Along (job .unit) (x ∷ []) =
       (a, b ∷ [], refl, le-leb (a + 1) (uncovered (job .unit .map) a) (omega (arith, leb-true (a + left) (uncovered (job .unit .map) a) (m .2))), omega arith) in
-      pick-cases (λ (t : State). after (record { state = t; stores = x ∷ [] })) (eqb left 1) _ _
+      cond-cases (λ (t : State). after (record { state = t; stores = x ∷ [] })) (eqb left 1) _ _
       (λ f. finished-with job (used s) (omega arith) (omega arith) u (x ∷ []) refl refl refl refl along)
       (λ f. record {
         next = refl;
@@ -371,7 +371,7 @@ module _ (job : Job) (s : State) (b : ℕ) (order : s .start ≤ s .next) where
         meant = (omega (arith, eqb-false left 1 f), omega arith, ram-next (job .unit .map) a left (m .0) (m .2), omega arith, m .4);
       })
   react-proper (Skipping left) e r m =
-      pick-cases (λ (t : State). after (still t)) (eqb left 1) _ _
+      cond-cases (λ (t : State). after (still t)) (eqb left 1) _ _
       (λ f. finished-proper job (used s) (omega arith) (omega arith))
       (λ f. turned-proper job (used s) (omega arith) (Skipping (pred left)) (omega (arith, eqb-false left 1 f), omega arith, m .2))
   react-proper (Stopped code place) e r m = absurd r
@@ -409,6 +409,6 @@ begun-stands job =
       inside = omega arith;
       counted = omega arith;
       meant =
-          pick-cases (λ (p : Phase). Meant job p (begun job)) (ltb (job .fileLength) 8) _ _ (λ e. at-magic refl refl)
+          cond-cases (λ (p : Phase). Meant job p (begun job)) (ltb (job .fileLength) 8) _ _ (λ e. at-magic refl refl)
           (λ e. (refl, lit≤ tt, ltb-false (job .fileLength) 8 e, refl));
     }

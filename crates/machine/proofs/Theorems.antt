@@ -1,5 +1,5 @@
 -- The theorems of the command machine and of running bare, each with the sentence that it carries.
-use mathlib.Core.Bool.{Bool}
+use mathlib.Core.Bool.{Bool, cond}
 use mathlib.Core.Path.{_≡_, refl, sym, ap, ap₂, subst, _∙_}
 use mathlib.Core.List.{List, [], _∷_, _++_, append-nil, List·Memᴰ, List·Memᴰ·head, List·Memᴰ·tail, Memᴰ·append-right}
 use mathlib.Core.Logic.{_⊎_, inl, inr, _≢_}
@@ -10,7 +10,7 @@ use borrow.Author.Tests.{eq-eqb, ne-eqb}
 use lib.Dec.{eqb, lit≤}
 use lib.ListN.{length, getD, length-append}
 use Rattle.answers.specs.Answers.{Outcome, answered, refused}
-use Rattle.answers.specs.Rules.{pick, Rule, firstBroken, sizeRules}
+use Rattle.answers.specs.Rules.{Rule, firstBroken, sizeRules}
 use Rattle.answers.specs.declared.Answer.{Answer}
 use Rattle.answers.proofs.RecordLaws.{answered-alike}
 use Rattle.board.specs.Cpuid.{tableRules}
@@ -28,7 +28,7 @@ use Rattle.machine.proofs.MemoryLaws.{byte-kept, byte-stored}
 use Rattle.machine.proofs.ReachedLaws.{run-next-le, reached-ended, run-stored, trace-inside}
 use Rattle.machine.proofs.Reserved.{Alike, withHeld, alike-run, alike-length}
 use Rattle.machine.proofs.Runs.{trace-append, trace-stopped}
-use Rattle.machine.proofs.Standing.{Ended, at-end, at-magic, at-command, begun-stands, pick-cases}
+use Rattle.machine.proofs.Standing.{Ended, at-end, at-magic, at-command, begun-stands, cond-cases}
 
 -- ---- the order of stores
 
@@ -128,7 +128,7 @@ module _ (file map table : List ℕ) (mode : ℕ) where
   pub refusal-has-no-entry : (memory : ℕ) → bareAnswer file map table mode memory .code ≢ 0 → bareAnswer file map table mode memory .entry ≡ 0
   refusal-has-no-entry memory =
       bare-cases file map table mode (λ (a : Answer) (xs : List Store). a .code ≢ 0 → a .entry ≡ 0) memory (λ code l u n. refl)
-      (λ h code place e q n. ap (λ (b : Bool). pick b (ranBare job file .tally .entry) 0) (ne-eqb code 0 n))
+      (λ h code place e q n. ap (λ (b : Bool). cond b (ranBare job file .tally .entry) 0) (ne-eqb code 0 n))
 
   -- The record's bytes stored is the number of the stores made.
   pub record-counts-stores : (memory : ℕ) → bareAnswer file map table mode memory .stored ≡ length (bareStores file map table mode memory)
@@ -142,7 +142,7 @@ module _ (file map table : List ℕ) (mode : ℕ) where
       ⊎ ((16 ≤ runBare file map table mode memory held .code) × (runBare file map table mode memory held .code ≤ 27))
   bare-codes memory held =
       rw (bare-is file map table mode memory held)
-      (pick-cases (λ (o : Outcome). Given (o .code)) (eqb (length held) 40) _ _
+      (cond-cases (λ (o : Outcome). Given (o .code)) (eqb (length held) 40) _ _
       (λ e. bare-cases file map table mode (λ (a : Answer) (xs : List Store). Given (a .code)) (length memory) (λ code l u. inl u)
       (λ h code place q r. by-end code r))
       (λ e. inl (lit≤ tt)))
@@ -187,7 +187,7 @@ module _ (file map table : List ℕ) (mode : ℕ) where
   unfolding applied
   early-codes-keep-memory memory held =
       rw (bare-is file map table mode memory held)
-      (pick-cases (λ (o : Outcome). Early (o .code) → o .lent ≡ memory) (eqb (length held) 40) _ _
+      (cond-cases (λ (o : Outcome). Early (o .code) → o .lent ≡ memory) (eqb (length held) 40) _ _
       (λ e. bare-cases file map table mode (λ (a : Answer) (xs : List Store). Early (a .code) → applied (regions map) memory xs ≡ memory) (length memory)
       (λ code l u n. refl)
       (λ h code place q r n. ap (applied (regions map) memory) (by-end code n r)))
@@ -211,12 +211,12 @@ module _ (file map table : List ℕ) (mode : ℕ) where
       × ((c : List ℕ) × LastEntry (commandsDone job (begun job) file) c × (bareAnswer file map table mode (length memory) .entry ≡ address c))
   bare-done-means memory held =
       rw (bare-is file map table mode memory held)
-      (pick-cases (λ (o : Outcome). o .code ≡ 0 → Done (bareAnswer file map table mode (length memory))) (eqb (length held) 40) _ _
+      (cond-cases (λ (o : Outcome). o .code ≡ 0 → Done (bareAnswer file map table mode (length memory))) (eqb (length held) 40) _ _
       (λ e. bare-cases file map table mode (λ (a : Answer) (xs : List Store). a .code ≡ 0 → Done a) (length memory)
       (λ code l u n. absurd (omega arith))
       (λ h code place q r n.
       let (used, (c, l, a)) = done-means job file (q ∙ ap (λ (x : ℕ). Stopped x place) n) in
-      (used, (c, l, ap (λ (b : Bool). pick b (ranBare job file .tally .entry) 0) (eq-eqb code 0 n) ∙ a))))
+      (used, (c, l, ap (λ (b : Bool). cond b (ranBare job file .tally .entry) 0) (eq-eqb code 0 n) ∙ a))))
       (λ e n. absurd (omega arith)))
     where
       Done : Answer → Type 0
@@ -246,11 +246,11 @@ module _ (file map table : List ℕ) (mode : ℕ) where
       answerAt : ℕ → List ℕ → Answer
       answerAt n bytes =
           let end = ranBare (jobOf n map table mode) bytes in
-          pick (eqb (firstBroken (rules n)) 0) (answerOr (end .phase) 0 0 end) (refused (firstBroken (rules n)))
+          cond (eqb (firstBroken (rules n)) 0) (answerOr (end .phase) 0 0 end) (refused (firstBroken (rules n)))
 
       storesAt : ℕ → List ℕ → List Store
       storesAt n bytes =
-          pick (eqb (firstBroken (rules n)) 0) (trace (jobOf n map table mode) (begun (jobOf n map table mode)) bytes) []
+          cond (eqb (firstBroken (rules n)) 0) (trace (jobOf n map table mode) (begun (jobOf n map table mode)) bytes) []
 
       unheld : (p : Phase) (j : List ℕ) (s : State) → answerOr p 0 0 (withHeld j s) ≡ answerOr p 0 0 s
       unheld Magic j s = refl
@@ -268,13 +268,13 @@ module _ (file map table : List ℕ) (mode : ℕ) where
           let end = ranBare job file in
           let (j, e) = alike-run job (begun job) file other q .0 in
           ap (λ (n : ℕ). answerAt n other) long
-          ∙ ap (λ (t : State). pick (eqb (firstBroken (rules (length file))) 0) (answerOr (t .phase) 0 0 t) (refused (firstBroken (rules (length file))))) e
-          ∙ ap (λ (a : Answer). pick (eqb (firstBroken (rules (length file))) 0) a (refused (firstBroken (rules (length file))))) (unheld (end .phase) j end)
+          ∙ ap (λ (t : State). cond (eqb (firstBroken (rules (length file))) 0) (answerOr (t .phase) 0 0 t) (refused (firstBroken (rules (length file))))) e
+          ∙ ap (λ (a : Answer). cond (eqb (firstBroken (rules (length file))) 0) a (refused (firstBroken (rules (length file))))) (unheld (end .phase) j end)
 
       stores : bareStores other map table mode (length memory) ≡ bareStores file map table mode (length memory)
       stores =
           ap (λ (n : ℕ). storesAt n other) long
-          ∙ ap (λ (xs : List Store). pick (eqb (firstBroken (rules (length file))) 0) xs []) (alike-run job (begun job) file other q .1)
+          ∙ ap (λ (xs : List Store). cond (eqb (firstBroken (rules (length file))) 0) xs []) (alike-run job (begun job) file other q .1)
 
   -- Two results that the promise of run bare allows are equal.
   pub result-unique : (memory held : List ℕ) (x y : Outcome) → runBare file map table mode memory held ≡ x → runBare file map table mode memory held ≡ y

@@ -1,5 +1,5 @@
 -- What a turn's bytes do, from what every state that a run comes to satisfies.
-use mathlib.Core.Bool.{Bool, true, false, true≢false}
+use mathlib.Core.Bool.{Bool, true, false, true≢false, cond}
 use mathlib.Core.Path.{_≡_, refl, sym, ap, subst, _∙_}
 use mathlib.Core.List.{List, [], _∷_, _++_}
 use Prim.Native.Nat.{ℕ, _+_, _-_, _*_, _^_, _≤_, _<_, min}
@@ -9,7 +9,7 @@ use lib.Dec.{eqb, lit≤}
 use lib.ListN.{length, take, drop, length-append, length-take, length-drop, take-append-drop, drop-of-length-le}
 use lib.Seq.{take-all, drop-drop}
 use Rattle.octets.specs.Parts.{put}
-use Rattle.answers.specs.Rules.{pick, firstBroken}
+use Rattle.answers.specs.Rules.{firstBroken}
 use Rattle.board.specs.Map.{Region, regions, uncovered, ram, limit, mapRules}
 use Rattle.board.proofs.MapLaws.{map-means, ordered-holds}
 use Rattle.machine.specs.Bare.{jobOf}
@@ -26,7 +26,7 @@ use Rattle.machine.proofs.MemoryLaws.{applied-append}
 use Rattle.machine.proofs.Pieces.{Keeps, over-kept, over-storing, over-skipping}
 use Rattle.machine.proofs.ReachedLaws.{reached-stands, reached-stored}
 use Rattle.machine.proofs.Runs.{begun-reached, run-append, trace-append, run-stopped, trace-stopped, piece-reached}
-use Rattle.machine.proofs.Standing.{Stands, Meant, header-kept, judged-in-data, pick-cases}
+use Rattle.machine.proofs.Standing.{Stands, Meant, header-kept, judged-in-data, cond-cases}
 
 -- ---- what the calls that take a piece are given
 
@@ -66,7 +66,7 @@ module _ {size : ℕ} {map table : List ℕ} {mode memory : ℕ} {s : State} (r 
   ready-meant e = subst (λ (p : Phase). Meant (jobOf size map table mode) p s) e (ready-stands .meant)
 
 pub limit-few : (mode : ℕ) → limit mode ≤ 2 ^ 52
-limit-few mode = pick-cases (λ (n : ℕ). n ≤ 2 ^ 52) (eqb mode 32) (2 ^ 32) (2 ^ 52) (λ e. lit≤ tt) (λ e. lit≤ tt)
+limit-few mode = cond-cases (λ (n : ℕ). n ≤ 2 ^ 52) (eqb mode 32) (2 ^ 32) (2 ^ 52) (λ e. lit≤ tt) (λ e. lit≤ tt)
 
 -- ---- phases that keep their bytes
 
@@ -151,7 +151,7 @@ module _ (job : Job) (s : State) (k : Keeping job (s .phase) s) (rest : List ℕ
         done =
             done-still _ map m
             (kept-are
-            ∙ ap (λ (b : Bool). pick b (still (keptAll taken s)) (reads (s .phase) job (keptAll taken s))) (lt-ltb (length (s .held ++ taken)) (wanted (s .phase) (s .held)) b)
+            ∙ ap (λ (b : Bool). cond b (still (keptAll taken s)) (reads (s .phase) job (keptAll taken s))) (lt-ltb (length (s .held ++ taken)) (wanted (s .phase) (s .held)) b)
             ∙ ap still (sym e));
       }
 
@@ -166,7 +166,7 @@ module _ (job : Job) (s : State) (k : Keeping job (s .phase) s) (rest : List ℕ
         done =
             done-same
             (kept-are
-            ∙ ap (λ (b : Bool). pick b (still (keptAll taken s)) (reads (s .phase) job (keptAll taken s))) (le-ltb (length (s .held ++ taken)) (wanted (s .phase) (s .held)) b)
+            ∙ ap (λ (b : Bool). cond b (still (keptAll taken s)) (reads (s .phase) job (keptAll taken s))) (le-ltb (length (s .held ++ taken)) (wanted (s .phase) (s .held)) b)
             ∙ sym (ap (λ (v : State). reads (v .phase) job v) e))
             d;
       }

@@ -1,10 +1,11 @@
 -- Running bare: a command file without SBS, with map, table, mode and memory ("The four jobs").
+use mathlib.Core.Bool.{cond}
 use mathlib.Core.List.{List, _++_}
 use Prim.Native.Nat.{ℕ}
 use lib.Dec.{eqb}
 use lib.ListN.{length}
 use Rattle.answers.specs.Answers.{Outcome, answered, refused}
-use Rattle.answers.specs.Rules.{pick, Rule, firstBroken, sizeRules}
+use Rattle.answers.specs.Rules.{Rule, firstBroken, sizeRules}
 use Rattle.board.specs.Board.{boardOf}
 use Rattle.board.specs.Cpuid.{tableRules}
 use Rattle.board.specs.Map.{mapRules, modeRules, regions}
@@ -29,6 +30,6 @@ runBare file map table mode memory held =
     let code = firstBroken (bareRules file map table mode (length memory)) in
     let job = jobOf (length file) map table mode in
     let end = ranBare job file in
-    pick (eqb code 0)
+    cond (eqb code 0)
     (answered held (answerOr (end .phase) 0 0 end) memory (applied (regions map) memory (trace job (begun job) file)))
     (answered held (refused code) memory memory)

@@ -1,10 +1,10 @@
 -- What the code's structs stand for, and the larger steps that it takes.
-use mathlib.Core.Bool.{Bool, true, false, not}
+use mathlib.Core.Bool.{Bool, true, false, not, cond}
 use mathlib.Core.Path.{_≡_}
 use mathlib.Core.List.{List, [], _∷_, _++_}
 use Prim.Native.Nat.{ℕ, _+_, _≤_, _<_, _^_}
 use lib.ListN.{length, take}
-use Rattle.answers.specs.Rules.{pick, rule, firstBroken}
+use Rattle.answers.specs.Rules.{rule, firstBroken}
 use Rattle.answers.specs.declared.Answer.{Answer}
 use Rattle.board.specs.Board.{Board}
 use Rattle.board.specs.Map.{Region, regions, ordered, total, mapRules}
@@ -109,7 +109,7 @@ reads (Stopped code place) job s = still s
 abbrev pub landed : Job → Bool → Phase → ℕ → Tally → State → State
 landed job last p next t s =
     let u : State = record { phase = s .phase; held = s .held; start = s .start; next = next; tally = t } in
-    pick last (finished job u) (turnedTo p u)
+    cond last (finished job u) (turnedTo p u)
 
 -- the bytes that c's phase waits for are all there; a header that came before has passed
 pub record Gathered (c : Control) (held : List ℕ) : Type 0 where

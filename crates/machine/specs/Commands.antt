@@ -1,5 +1,5 @@
 -- The commands: their IDs, their fields, and the rules that each is judged by ("The commands").
-use mathlib.Core.Bool.{Bool, true, false, not}
+use mathlib.Core.Bool.{Bool, true, false, not, cond}
 use mathlib.Core.List.{List, [], _∷_, _++_}
 use Prim.Native.Nat.{ℕ, _+_, _-_}
 use lib.Bits.{bitAnd}
@@ -7,7 +7,7 @@ use lib.Dec.{eqb, leb, ltb}
 use lib.ListN.{length}
 use Rattle.octets.specs.Numbers.{little}
 use Rattle.octets.specs.Parts.{part}
-use Rattle.answers.specs.Rules.{pick, Rule, rule}
+use Rattle.answers.specs.Rules.{Rule, rule}
 use Rattle.board.specs.Board.{Board}
 use Rattle.board.specs.Map.{ram, reachable}
 use Rattle.board.specs.Cpuid.{lookup}
@@ -19,9 +19,9 @@ use Rattle.machine.specs.declared.Command.the-variants.{Write, Fill, Ent
 -- the IDs are those of table 1
 abbrev pub command : ℕ → Command
 command id =
-    pick (eqb id 0) Write
-    (pick (eqb id 1) Fill
-    (pick (eqb id 2) Entry (pick (eqb id 3) Check (pick (ltb id 60000) Unknown (pick (leb id 65535) Skip Unknown)))))
+    cond (eqb id 0) Write
+    (cond (eqb id 1) Fill
+    (cond (eqb id 2) Entry (cond (eqb id 3) Check (cond (ltb id 60000) Unknown (cond (leb id 65535) Skip Unknown)))))
 
 -- A command's bytes c, from its first one on. Its 16-byte header: ID 2, reserved 6, data length 8; then its data.
 abbrev pub commandOf : List ℕ → Command
@@ -101,7 +101,7 @@ entryRules unit a = rule 20 (not (reachable (unit .reach) a 1)) ∷ []
 -- whether a zero byte is somewhere
 unfoldable pub hasZero : List ℕ → Bool
 hasZero [] = false
-hasZero (b ∷ bs) = pick (eqb b 0) true (hasZero bs)
+hasZero (b ∷ bs) = cond (eqb b 0) true (hasZero bs)
 
 abbrev pub missing : Found → Bool
 missing (Word w) = false

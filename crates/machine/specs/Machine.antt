@@ -1,12 +1,12 @@
 -- The written machine: what each proved byte of a command file does ("The commands").
 -- It is told the unit and the file's length, and it never sees memory: it answers with the stores to make.
-use mathlib.Core.Bool.{Bool, true, false}
+use mathlib.Core.Bool.{Bool, true, false, cond}
 use mathlib.Core.List.{List, [], _∷_, _++_}
 use Prim.Native.Nat.{ℕ, zero, suc, pred, _+_, _-_}
 use lib.Dec.{eqb, ltb}
 use lib.ListN.{length, replicate}
 use Rattle.octets.specs.Numbers.{little}
-use Rattle.answers.specs.Rules.{pick, firstBroken}
+use Rattle.answers.specs.Rules.{firstBroken}
 use Rattle.answers.specs.declared.Answer.{Answer}
 use Rattle.board.specs.Board.{Board}
 use Rattle.machine.specs.Commands.{
@@ -100,9 +100,9 @@ awaiting s = record { phase = Header; held = []; start = s .next; next = s .next
 -- 17 with 1 to 15 bytes left; else a command begins.
 unfoldable pub begins : Job → State → State
 begins job s =
-    pick (eqb (s .next) (job .fileLength))
-    (pick (s .tally .entered) (stopped 0 0 s) (stopped 27 (job .fileLength) s))
-    (pick (ltb (job .fileLength - s .next) 16) (stopped 17 (s .next) s) (awaiting s))
+    cond (eqb (s .next) (job .fileLength))
+    (cond (s .tally .entered) (stopped 0 0 s) (stopped 27 (job .fileLength) s))
+    (cond (ltb (job .fileLength - s .next) 16) (stopped 17 (s .next) s) (awaiting s))
 
 -- a command counts as done when its last byte has been used
 unfoldable pub finished : Job → State → State
@@ -110,11 +110,11 @@ finished job s = begins job (tallied (withCommand (s .tally)) s)
 
 -- a command that breaks a rule stops the run at its first byte; one that breaks none goes on
 abbrev pub judged : ℕ → State → Turn → Turn
-judged code s t = pick (eqb code 0) t (still (stopped code (s .start) s))
+judged code s t = cond (eqb code 0) t (still (stopped code (s .start) s))
 
 -- the magic is judged when its 8 bytes are proved
 unfoldable pub magicRead : Job → State → State
-magicRead job s = pick (eqb (little (s .held)) 0x8adc5fa2448cb65e) (begins job s) (stopped 16 0 s)
+magicRead job s = cond (eqb (little (s .held)) 0x8adc5fa2448cb65e) (begins job s) (stopped 16 0 s)
 
 -- a header has passed: a skipped command has its data skipped, the others wait for what they are judged by
 unfoldable pub passed : Job → Command → ℕ → State → State
@@ -122,7 +122,7 @@ passed job Write n s = turnedTo Parameters s
 passed job Fill n s = turnedTo Parameters s
 passed job Entry n s = turnedTo Parameters s
 passed job Check n s = turnedTo Parameters s
-passed job Skip n s = pick (eqb n 0) (finished job s) (turnedTo (Skipping n) s)
+passed job Skip n s = cond (eqb n 0) (finished job s) (turnedTo (Skipping n) s)
 -- does not come: it has not passed
 passed job Unknown n s = s
 
@@ -136,7 +136,7 @@ unfoldable pub writeRead : Job → State → Turn
 writeRead job s =
     let n = dataLength (s .held) - 8 in
     judged (firstBroken (rangeRules (job .unit) (address (s .held)) n)) s
-    (still (pick (eqb n 0) (finished job s) (turnedTo (Storing (address (s .held)) n) s)))
+    (still (cond (eqb n 0) (finished job s) (turnedTo (Storing (address (s .held)) n) s)))
 
 -- a fill stores ascending
 unfoldable pub fillRead : Job → State → Turn
@@ -167,11 +167,11 @@ parametersRead job Unknown s = still s
 
 -- one byte kept; when the wanted number is there, what they say
 abbrev pub gathered : ℕ → State → Turn → Turn
-gathered wanted s whole = pick (ltb (length (s .held)) wanted) (still s) whole
+gathered wanted s whole = cond (ltb (length (s .held)) wanted) (still s) whole
 
 -- the last byte of a command's data finishes it
 abbrev pub unlessLast : Job → ℕ → Phase → State → State
-unlessLast job left p s = pick (eqb left 1) (finished job s) (turnedTo p s)
+unlessLast job left p s = cond (eqb left 1) (finished job s) (turnedTo p s)
 
 -- what one proved byte does
 unfoldable pub react : Phase → Job → State → ℕ → Turn
@@ -205,7 +205,7 @@ trace job s (b ∷ bs) = step job s b .stores ++ trace job (step job s b .state)
 abbrev pub begun : Job → State
 begun job =
     record {
-      phase = pick (ltb (job .fileLength) 8) (Stopped 16 0) Magic;
+      phase = cond (ltb (job .fileLength) 8) (Stopped 16 0) Magic;
       held = [];
       start = 0;
       next = 0;
@@ -220,7 +220,7 @@ answerWith code place s =
       place = place;
       commands = s .tally .commands;
       stored = s .tally .stored;
-      entry = pick (eqb code 0) (s .tally .entry) 0;
+      entry = cond (eqb code 0) (s .tally .entry) 0;
     }
 
 -- the answer of a run that has stopped; of one that has not, the given code and place with the counts as they stand

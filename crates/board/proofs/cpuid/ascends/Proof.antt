@@ -1,10 +1,9 @@
 -- What is left to test are the records from number i on.
-use mathlib.Core.Bool.{Bool, false}
+use mathlib.Core.Bool.{Bool, false, cond}
 use mathlib.Core.Path.{_≡_, sym, ap, _∙_}
 use Prim.Native.Nat.{_+_, _-_, _≤_}
 use native.Mathlib.Omega.{arith}
 use borrow.Author.Tests.{not-true, not-false}
-use Rattle.answers.specs.Rules.{pick}
 use Rattle.board.specs.Cpuid.{leaves, ascending}
 use Rattle.board.proofs.WalkLaws.{leavesLeft, leaves-all, ascending-on, ascending-end}
 use Rattle.board.proofs.cpuid.ascends.Statement.{statement}
@@ -22,7 +21,7 @@ returns c =
     let table = c .before .before .before .before .before .args .table .now in
     sym
     (l .inv .1 ∙ ascending-on table (l .i) (omega arith)
-    ∙ ap (λ (t : Bool). pick t (ascending (leavesLeft table (l .i + 1))) false) (sym (c .before .is-before .ensures) ∙ not-true _ (c .if1 .taken)))
+    ∙ ap (λ (t : Bool). cond t (ascending (leavesLeft table (l .i + 1))) false) (sym (c .before .is-before .ensures) ∙ not-true _ (c .if1 .taken)))
 
 loop-again : tie.Need-loop-again Inv-loop μ-loop
 loop-again c =
@@ -30,7 +29,7 @@ loop-again c =
     let table = c .before .before .before .before .before .args .table .now in (
       omega arith,
       l .inv .1 ∙ ascending-on table (l .i) (omega arith)
-          ∙ ap (λ (t : Bool). pick t (ascending (leavesLeft table (l .i + 1))) false) (sym (c .before .is-before .ensures) ∙ not-false _ (c .if1 .left)),
+          ∙ ap (λ (t : Bool). cond t (ascending (leavesLeft table (l .i + 1))) false) (sym (c .before .is-before .ensures) ∙ not-false _ (c .if1 .left)),
     )
 
 returns-2 : tie.Need-returns-2 Inv-loop μ-loop
