@@ -1,2 +1,4 @@
+pub mod ChoiceLaws
+pub mod OutcomeLaws
 pub mod RecordLaws
 pub mod RuleLaws

@@ -1,39 +1,26 @@
 -- Laws of the answer record.
 use mathlib.Core.Path.{_≡_, refl, sym, ap, _∙_}
-use mathlib.Core.Bool.{Bool, true, false, cond}
 use mathlib.Core.List.{List, _++_, append-nil}
 use Prim.Native.Nat.{ℕ, _+_, _^_, _≤_, _<_}
 use native.Mathlib.Nat.{zero-add}
 use native.Mathlib.Omega.{arith}
-use lib.Dec.{eqb}
 use lib.ListN.{length, drop-of-length-le}
 use Rattle.octets.specs.Numbers.{little, littleBytes}
 use Rattle.octets.specs.Parts.{part, put}
 use Rattle.octets.proofs.NumberLaws.{little-littleBytes-lt}
 use Rattle.octets.proofs.PartLaws.{put-beside}
-use Rattle.answers.specs.Answers.{Outcome, answered, recordBytes}
+use Rattle.answers.specs.Answers.{recordBytes, recordLength}
 use Rattle.answers.specs.declared.Answer.{Answer}
 
--- code and record are those of the answer, whatever is lent besides
-pub answered-alike : (held : List ℕ) (a : Answer) (before after before′ after′ : List ℕ)
-    → (answered held a before after .code ≡ answered held a before′ after′ .code)
-    × (answered held a before after .answer ≡ answered held a before′ after′ .answer)
-answered-alike held a before after before′ after′ = go (eqb (length held) 40)
-  where
-    outcome : Bool → List ℕ → List ℕ → Outcome
-    outcome b x y = cond b (record { code = a .code; answer = recordBytes a; lent = y }) (record { code = 1; answer = held; lent = x })
+-- ---- its length
 
-    go : (b : Bool) → (outcome b before after .code ≡ outcome b before′ after′ .code) × (outcome b before after .answer ≡ outcome b before′ after′ .answer)
-    go true = (refl, refl)
-    go false = (refl, refl)
-
-pub length-record : (a : Answer) → length (recordBytes a) ≡ 40
+pub length-record : (a : Answer) → length (recordBytes a) ≡ recordLength
 unfolding recordBytes littleBytes
 length-record a = refl
 
 -- ---- the five numbers written one behind the other
 
-module _ (a : Answer) (l₀ l₁ l₂ l₃ l₄ l₅ : List ℕ) (n : length l₀ ≡ 40) where
+module _ (a : Answer) (l₀ l₁ l₂ l₃ l₄ l₅ : List ℕ) (n : length l₀ ≡ recordLength) where
   pub record-written : l₁ ≡ put l₀ 0 (littleBytes 8 (a .code)) → l₂ ≡ put l₁ 8 (littleBytes 8 (a .place))
       → l₃ ≡ put l₂ 16 (littleBytes 8 (a .commands)) → l₄ ≡ put l₃ 24 (littleBytes 8 (a .stored))
       → l₅ ≡ put l₄ 32 (littleBytes 8 (a .entry)) → l₅ ≡ recordBytes a
@@ -42,9 +29,9 @@ module _ (a : Answer) (l₀ l₁ l₂ l₃ l₄ l₅ : List ℕ) (n : length l�
       joined 32 (c ++ p ++ d ++ s) e
       (joined 24 (c ++ p ++ d) s (joined 16 (c ++ p) d (joined 8 c p e₁ e₂ refl (omega arith)) e₃ refl (omega arith)) e₄ refl (omega arith))
       e₅ refl (omega arith)
-      ∙ ap (λ (t : List ℕ). recordBytes a ++ t) (drop-of-length-le l₀ {i = 40} (omega arith)) ∙ append-nil (recordBytes a)
+      ∙ ap (λ (t : List ℕ). recordBytes a ++ t) (drop-of-length-le l₀ {i = recordLength} (omega arith)) ∙ append-nil (recordBytes a)
     where
-      joined : (k : ℕ) (v w : List ℕ) {l m : List ℕ} → l ≡ put l₀ 0 v → m ≡ put l k w → length v ≡ k → k + length w ≤ 40 → m ≡ put l₀ 0 (v ++ w)
+      joined : (k : ℕ) (v w : List ℕ) {l m : List ℕ} → l ≡ put l₀ 0 v → m ≡ put l k w → length v ≡ k → k + length w ≤ recordLength → m ≡ put l₀ 0 (v ++ w)
       joined k v w f g h fits =
           g ∙ ap (λ (t : List ℕ). put t k w) f ∙ ap (λ (i : ℕ). put (put l₀ 0 v) i w) (sym (zero-add k)) ∙ put-beside l₀ 0 k v w h (omega arith)
 

@@ -1,12 +1,13 @@
 -- Laws of rules in an order, where the first that is broken gives its number.
-use mathlib.Core.Bool.{Bool, true, false, cond}
+use mathlib.Core.Bool.{Bool, true, false, _&&_, _||_, cond}
 use mathlib.Core.List.{List, [], _∷_, _++_, List·Memᴰ, List·Memᴰ·head, List·Memᴰ·tail}
 use mathlib.Core.Logic.{_⊎_, inl, inr, _↔_}
-use mathlib.Core.Path.{_≡_, refl}
+use mathlib.Core.Path.{_≡_, refl, sym, ap, subst, _∙_}
 use Prim.Native.Nat.{ℕ}
 use lib.Dec.{T, eqb}
-use borrow.Author.Tests.{eqb-false}
+use borrow.Author.Tests.{eqb-true, eqb-false, ne-eqb}
 use Rattle.answers.specs.Rules.{Rule, firstBroken}
+use Rattle.answers.proofs.ChoiceLaws.{cond-eq, cond-ne}
 
 -- no rule bears the number 0
 abbrev pub numbered : List Rule → Bool
@@ -35,6 +36,35 @@ first-broken-append (r ∷ xs) ys h = step (r .broken) (numbered-parts (eqb (r .
         ≡ cond (eqb (cond b (r .code) (firstBroken xs)) 0) (firstBroken ys) (cond b (r .code) (firstBroken xs))
     step true e below = rw e
     step false e below = below
+
+-- rules judged by a code r: that of the first ones decides where it is a refusal, else the others do
+module _ (xs ys : List Rule) (r : ℕ) (n : T (numbered xs)) (e : r ≡ firstBroken xs) where
+  pub refuses : (r ≡ 0 → ⊥) → r ≡ firstBroken (xs ++ ys)
+  refuses h =
+      e
+      ∙ sym (first-broken-append xs ys n ∙ cond-ne (firstBroken xs) 0 (firstBroken ys) (firstBroken xs) (λ z. h (e ∙ z)))
+
+  pub goes-on : r ≡ 0 → firstBroken (xs ++ ys) ≡ firstBroken ys
+  goes-on z =
+      first-broken-append xs ys n ∙ cond-eq (firstBroken xs) 0 (firstBroken ys) (firstBroken xs) (sym e ∙ z)
+
+-- of two lists none is broken just where none is in either
+module _ (xs ys : List Rule) (n : T (numbered xs)) where
+  pub both-hold : firstBroken (xs ++ ys) ≡ 0 → (firstBroken xs ≡ 0) × (firstBroken ys ≡ 0)
+  both-hold e = go (eqb (firstBroken xs) 0) refl (sym (first-broken-append xs ys n) ∙ e)
+    where
+      go : (b : Bool) → eqb (firstBroken xs) 0 ≡ b → cond b (firstBroken ys) (firstBroken xs) ≡ 0
+          → (firstBroken xs ≡ 0) × (firstBroken ys ≡ 0)
+      go true p z = (eqb-true (firstBroken xs) 0 p, z)
+      go false p z = absurd (eqb-false (firstBroken xs) 0 p z)
+
+  pub hold-both : firstBroken xs ≡ 0 → firstBroken ys ≡ 0 → firstBroken (xs ++ ys) ≡ 0
+  hold-both e f = goes-on xs ys 0 n (sym e) refl ∙ f
+
+-- rules behind which all hold
+pub holds-behind : (xs ys : List Rule) → firstBroken ys ≡ 0 → firstBroken (xs ++ ys) ≡ firstBroken xs
+holds-behind [] ys e = e
+holds-behind (r ∷ xs) ys e = ap (cond (r .broken) (r .code)) (holds-behind xs ys e)
 
 pub all-hold-zero : (rs : List Rule) → AllHold rs → firstBroken rs ≡ 0
 all-hold-zero [] h = refl
@@ -91,3 +121,30 @@ first-broken-same k (r ∷ rs) e f = step (r .broken) refl (first-broken-same k 
     step : (b : Bool) → r .broken ≡ b → ((AllHold rs → ⊥) → firstBroken rs ≡ k) → cond b (r .code) (firstBroken rs) ≡ k
     step true q below = e .0
     step false q below = below (λ h. f (q, h))
+
+-- whether the codes of some rules all pass a test
+abbrev pub codesPass : (ℕ → Bool) → List Rule → Bool
+codesPass f [] = true
+codesPass f (r ∷ rs) = f (r .code) && codesPass f rs
+
+and-parts : (a b : Bool) → T (a && b) → T a × T b
+and-parts true b t = (tt, t)
+and-parts false b t = absurd t
+
+-- then so does the code that is given
+pub code-passes : (f : ℕ → Bool) (rs : List Rule) → T (f 0) → T (codesPass f rs) → T (f (firstBroken rs))
+code-passes f [] z t = z
+code-passes f (r ∷ rs) z t =
+    go (r .broken) (and-parts (f (r .code)) (codesPass f rs) t .0)
+    (code-passes f rs z (and-parts (f (r .code)) (codesPass f rs) t .1))
+  where
+    go : (b : Bool) → T (f (r .code)) → T (f (firstBroken rs)) → T (f (cond b (r .code) (firstBroken rs)))
+    go true p q = p
+    go false p q = q
+
+-- a refusal passes what is asked of codes but 0
+pub not-none : (f : ℕ → Bool) (rs : List Rule) → T (codesPass (λ (c : ℕ). eqb c 0 || f c) rs) → (firstBroken rs ≡ 0 → ⊥)
+    → T (f (firstBroken rs))
+not-none f rs t ne =
+    subst (λ (b : Bool). T (b || f (firstBroken rs))) (ne-eqb (firstBroken rs) 0 ne)
+    (code-passes (λ (c : ℕ). eqb c 0 || f c) rs tt t)

@@ -1,11 +1,25 @@
--- What a call answers, and what it leaves in the bytes lent to it ("The four jobs").
+-- What a call answers, and what it leaves in the bytes lent to it.
 use mathlib.Core.Bool.{cond}
-use mathlib.Core.List.{List, _++_}
+use mathlib.Core.List.{List, [], _++_}
 use Prim.Native.Nat.{ℕ}
 use lib.Dec.{eqb}
 use lib.ListN.{length}
 use Rattle.octets.specs.Numbers.{littleBytes}
 use Rattle.answers.specs.declared.Answer.{Answer}
+use Rattle.answers.specs.declared.Stop.{Stop}
+
+-- what a stop says: its code, and its place
+abbrev pub stopAt : ℕ → ℕ → Stop
+stopAt code place = record { code = code; place = place }
+
+-- the answer of a stop, with the commands done, the bytes stored and the entry
+abbrev pub told : Stop → ℕ → ℕ → ℕ → Answer
+told s commands stored entry =
+    record { code = s .code; place = s .place; commands = commands; stored = stored; entry = entry }
+
+-- a refusal that nothing went before
+abbrev pub refused : ℕ → Answer
+refused code = told (stopAt code 0) 0 0 0
 
 -- the lent record: code, place, commands done, bytes stored, entry, each 64 bits, little-endian
 unfoldable pub recordBytes : Answer → List ℕ
@@ -13,9 +27,9 @@ recordBytes a =
     littleBytes 8 (a .code) ++ littleBytes 8 (a .place) ++ littleBytes 8 (a .commands) ++ littleBytes 8 (a .stored)
     ++ littleBytes 8 (a .entry)
 
--- a refusal that nothing went before
-abbrev pub refused : ℕ → Answer
-refused code = record { code = code; place = 0; commands = 0; stored = 0; entry = 0 }
+-- its length
+abbrev pub recordLength : ℕ
+recordLength = 40
 
 -- what a call returns, and what it leaves in the lent record and in the memory or output lent to it
 pub record Outcome : Type 0 where
@@ -24,8 +38,16 @@ pub record Outcome : Type 0 where
   pub lent : List ℕ
 
 -- the answer a, with `after` left in what held `before`;
--- if the record isn't 40 bytes long the call returns 1 and writes nothing anywhere
+-- if the record, which held `old`, is of another length the call returns 1 and writes nothing anywhere
 abbrev pub answered : List ℕ → Answer → List ℕ → List ℕ → Outcome
-answered held a before after =
-    cond (eqb (length held) 40) (record { code = a .code; answer = recordBytes a; lent = after })
-    (record { code = 1; answer = held; lent = before })
+answered old a before after =
+    cond (eqb (length old) recordLength) (record { code = a .code; answer = recordBytes a; lent = after })
+    (record { code = 1; answer = old; lent = before })
+
+-- How a call concludes that judges its arguments first: where these break a rule its number, `early`, is the answer,
+abbrev pub answerAfter : ℕ → Answer → Answer
+answerAfter early a = cond (eqb early 0) a (refused early)
+
+-- and nothing is written.
+abbrev pub writtenAfter : {A : Type 0} → ℕ → List A → List A
+writtenAfter early xs = cond (eqb early 0) xs []

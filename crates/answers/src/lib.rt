@@ -8,6 +8,15 @@ ghost use denote.Ref.{now};
 ghost use lib.ListN.{length};
 ghost use Rattle.answers.specs.Answers as spec;
 
+// The answer record's length in bytes.
+pub const RECORD_LENGTH: usize = 40;
+
+// What a stop says: the code, and the place.
+pub struct Stop {
+    pub code: u64,
+    pub place: u64,
+}
+
 // What a call answers.
 pub struct Answer {
     pub code: u64,
@@ -17,28 +26,41 @@ pub struct Answer {
     pub entry: u64,
 }
 
+pub fn stop_at(code: u64, place: u64) -> Stop
+    ensures { λ r. ⌜ r ≡ spec.stopAt code place ⌝ }
+{
+    Stop { code, place }
+}
+
+// The answer of a stop, with the commands done, the bytes stored and the entry.
+pub fn told(stop: Stop, commands: u64, stored: u64, entry: u64) -> Answer
+    ensures { λ r. ⌜ r ≡ spec.told stop commands stored entry ⌝ }
+{
+    Answer {
+        code: stop.code,
+        place: stop.place,
+        commands,
+        stored,
+        entry,
+    }
+}
+
 // A refusal that nothing went before.
 pub fn refused(code: u64) -> Answer
     ensures { λ r. ⌜ r ≡ spec.refused code ⌝ }
 {
-    Answer {
-        code,
-        place: 0,
-        commands: 0,
-        stored: 0,
-        entry: 0,
-    }
+    told(stop_at(code, 0), 0, 0, 0)
 }
 
 // Writes an answer into the lent record, and gives its code, which the call returns.
-pub fn write_answer(held: &mut [u8], a: Answer) -> u64
-    requires { ⌜ length (now held) ≡ 40 ⌝ }
-    ensures { λ r. ⌜ (now (held .exit) ≡ spec.recordBytes a) × (r ≡ a .code) ⌝ }
+pub fn write_answer(answer: &mut [u8], a: Answer) -> u64
+    requires { ⌜ length (now answer) ≡ spec.recordLength ⌝ }
+    ensures { λ r. ⌜ (now (answer .exit) ≡ spec.recordBytes a) × (r ≡ a .code) ⌝ }
 {
-    numbers::put_little8(held, 0, a.code);
-    numbers::put_little8(held, 8, a.place);
-    numbers::put_little8(held, 16, a.commands);
-    numbers::put_little8(held, 24, a.stored);
-    numbers::put_little8(held, 32, a.entry);
+    numbers::put_little8(answer, 0, a.code);
+    numbers::put_little8(answer, 8, a.place);
+    numbers::put_little8(answer, 16, a.commands);
+    numbers::put_little8(answer, 24, a.stored);
+    numbers::put_little8(answer, 32, a.entry);
     a.code
 }

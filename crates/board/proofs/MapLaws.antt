@@ -14,27 +14,28 @@ use Rattle.answers.proofs.RuleLaws.{AllHold, zero-all-hold, all-hold-zero, firs
 use Rattle.board.specs.Records.{records}
 use Rattle.board.specs.Map.{Region, end, regions, ordered, total, mapRules, uncovered, ram, offset}
 use Rattle.board.proofs.RunLaws.{each-more}
-use Rattle.board.proofs.TestLaws.{le-or-lt, cond-false}
+use Rattle.answers.proofs.ChoiceLaws.{cond-false}
+use Rattle.board.proofs.TestLaws.{le-or-lt}
 
 -- ---- the order of regions
 
 -- what `ordered` tests: a first region at or above low, and those behind it
 abbrev pub Ordered : ℕ → List Region → Type 0
 Ordered low [] = Unit {0}
-Ordered low (r ∷ rs) = (1 ≤ r .size) × (low ≤ r .base) × (end r ≤ 2 ^ 52) × Ordered (end r) rs
+Ordered low (r ∷ rs) = (1 ≤ r .length) × (low ≤ r .base) × (end r ≤ 2 ^ 52) × Ordered (end r) rs
 
 pub ordered-means : (low : ℕ) (rs : List Region) → ordered low rs ≡ true → Ordered low rs
 unfolding ordered
 ordered-means low [] h = tt
 ordered-means low (r ∷ rs) h =
-    let a = cond-false (ltb (r .size) 1) _ h in
+    let a = cond-false (ltb (r .length) 1) _ h in
     let b = cond-false (ltb (r .base) low) _ (a .1) in
     let d = cond-false (ltb (2 ^ 52) (end r)) (ordered (end r) rs) (b .1) in
     (ltb-false _ _ (a .0), ltb-false _ _ (b .0), ltb-false _ _ (d .0), ordered-means (end r) rs (d .1))
 
-pub ordered-step : (low : ℕ) (r : Region) (rs : List Region) → 1 ≤ r .size → low ≤ r .base → end r ≤ 2 ^ 52 → ordered low (r ∷ rs) ≡ ordered (end r) rs
+pub ordered-step : (low : ℕ) (r : Region) (rs : List Region) → 1 ≤ r .length → low ≤ r .base → end r ≤ 2 ^ 52 → ordered low (r ∷ rs) ≡ ordered (end r) rs
 unfolding ordered
-ordered-step low r rs a b c = simp (le-ltb (r .size) 1 a, le-ltb (r .base) low b, le-ltb (2 ^ 52) (end r) c)
+ordered-step low r rs a b c = simp (le-ltb (r .length) 1 a, le-ltb (r .base) low b, le-ltb (2 ^ 52) (end r) c)
 
 pub ordered-holds : (low : ℕ) (rs : List Region) → Ordered low rs → ordered low rs ≡ true
 unfolding ordered
@@ -137,13 +138,6 @@ module _ (low : ℕ) (rs : List Region) (o : Ordered low rs) where
   pub ram-part : (a n b m : ℕ) → ram rs a n ≡ true → a ≤ b → b + m ≤ a + n → ram rs b m ≡ true
   ram-part a n b m h l e = covered-ram b m (λ x p q. ram-covered rs a n x h (omega arith) (omega arith))
 
-  -- its first byte, and the rest
-  pub ram-first : (a n : ℕ) → ram rs a (suc n) ≡ true → Covered rs a
-  ram-first a n h = ram-covered rs a (suc n) a h (omega arith) (omega arith)
-
-  pub ram-rest : (a n : ℕ) → ram rs a (suc n) ≡ true → ram rs (a + 1) n ≡ true
-  ram-rest a n h = ram-part a (suc n) (a + 1) n h (omega arith) (omega arith)
-
 -- ---- an address's byte of the lent memory
 
 pub offset-none : (low : ℕ) (rs : List Region) (x : ℕ) → Ordered low rs → x ≤ low → offset rs x ≡ 0
@@ -203,7 +197,7 @@ module _ (read : ℕ → Region) where
   -- n regions from number i on, the first at or above low: the document's rules, one by one
   pub record InOrder (low i n : ℕ) : Type 0 where
     pub first : 0 < n → low ≤ read i .base
-    pub sizes : (j : ℕ) → i ≤ j → j < i + n → 1 ≤ read j .size
+    pub sizes : (j : ℕ) → i ≤ j → j < i + n → 1 ≤ read j .length
     pub bases : (j : ℕ) → i ≤ j → suc j < i + n → end (read j) ≤ read (suc j) .base
     pub ends : (j : ℕ) → i ≤ j → j < i + n → end (read j) ≤ 2 ^ 52
 
@@ -215,7 +209,7 @@ module _ (read : ℕ → Region) where
       let rest = ordered-in-order (end (read i)) (suc i) n (h .3) in
       record {
         first = λ p. h .1;
-        sizes = each-more (λ (j : ℕ). 1 ≤ read j .size) i n (h .0) (rest .sizes);
+        sizes = each-more (λ (j : ℕ). 1 ≤ read j .length) i n (h .0) (rest .sizes);
         bases = λ j l m. each-more (λ (j : ℕ). suc j < i + suc n → end (read j) ≤ read (suc j) .base) i n (λ p. rest .first (omega arith))
             (λ j l m p. rest .bases j l (omega arith)) j l (omega arith) m;
         ends = each-more (λ (j : ℕ). end (read j) ≤ 2 ^ 52) i n (h .2) (rest .ends);

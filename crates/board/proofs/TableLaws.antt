@@ -16,7 +16,8 @@ use Rattle.board.specs.Records.{records}
 use Rattle.board.specs.declared.Found.{Found}
 use Rattle.board.specs.declared.Found.the-variants.{Word, Nothing}
 use Rattle.board.proofs.RunLaws.{each-more}
-use Rattle.board.proofs.TestLaws.{le-or-lt, cond-true}
+use Rattle.answers.proofs.ChoiceLaws.{cond-true}
+use Rattle.board.proofs.TestLaws.{le-or-lt}
 
 -- ---- the order of records
 

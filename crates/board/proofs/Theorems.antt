@@ -11,7 +11,8 @@ use lib.ListN.{length, take}
 use borrow.Author.Tests.{leb-true, le-leb}
 use Rattle.answers.specs.Rules.{firstBroken}
 use Rattle.board.specs.Cpuid.{leaf, leaves, tableRules, register, lookup}
-use Rattle.board.specs.Map.{Region, region, end, regions, total, mapRules, uncovered, ram, offset, reachable}
+use Rattle.board.specs.Map.{Region, region, end, regions, total, mapRules, uncovered, ram, offset}
+use Rattle.board.specs.Reach.{reachable}
 use Rattle.board.specs.declared.Found.the-variants.{Word, Nothing}
 use Rattle.board.proofs.MapLaws.{Ordered, MapTaken, map-means, map-holds, ordered-in-order, in-order-ordered}
 use Rattle.board.proofs.MapLaws.{In, Covered, covered-by, covered-some, covered-ram, ram-covered, uncovered-above, uncovered-covered, uncovered-not}
@@ -29,7 +30,7 @@ pub record MapHolds (map : List ℕ) (memory : ℕ) : Type 0 where
   pub some : 1 ≤ length map / 16
   pub few : length map / 16 ≤ 16
   -- each length at least 1
-  pub sizes : (i : ℕ) → i < length map / 16 → 1 ≤ region map i .size
+  pub sizes : (i : ℕ) → i < length map / 16 → 1 ≤ region map i .length
   -- each base at or above the end of the region before
   pub bases : (i : ℕ) → suc i < length map / 16 → end (region map i) ≤ region map (suc i) .base
   -- each end at most 2^52

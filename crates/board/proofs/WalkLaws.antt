@@ -17,7 +17,7 @@ use Rattle.board.specs.declared.Found.the-variants.{Word}
 use Rattle.board.proofs.MapLaws.{Ordered, ordered-means, ordered-step, total-fits, uncovered-step, uncovered-below, offset-none, offset-le-total}
 use Rattle.board.proofs.RunLaws.{records-next, records-end}
 use Rattle.board.proofs.TableLaws.{lookup-hit, lookup-miss}
-use Rattle.board.proofs.TestLaws.{cond-true, cond-eq}
+use Rattle.answers.proofs.ChoiceLaws.{cond-true, cond-eq}
 
 -- ---- the map
 
@@ -36,13 +36,13 @@ module _ (map : List ℕ) (i : ℕ) (h : i < length map / 16) where
   next = records-next (region map) i (length map / 16) h
 
   -- the region keeps the rules: go on above its end
-  pub ordered-on : (low high : ℕ) → 1 ≤ region map i .size → low ≤ region map i .base → end (region map i) ≤ 2 ^ 52 → end (region map i) ≡ high
+  pub ordered-on : (low high : ℕ) → 1 ≤ region map i .length → low ≤ region map i .base → end (region map i) ≤ 2 ^ 52 → end (region map i) ≡ high
       → ordered low (left map i) ≡ ordered high (left map (i + 1))
   ordered-on low high a b c e =
       ap (ordered low) next ∙ ordered-step low (region map i) (left map (i + 1)) a b c ∙ ap (λ (k : ℕ). ordered k (left map (i + 1))) e
 
   -- it breaks one
-  pub ordered-stops : (low : ℕ) → (1 ≤ region map i .size → low ≤ region map i .base → end (region map i) ≤ 2 ^ 52 → ⊥)
+  pub ordered-stops : (low : ℕ) → (1 ≤ region map i .length → low ≤ region map i .base → end (region map i) ≤ 2 ^ 52 → ⊥)
       → ordered low (left map i) ≡ false
   ordered-stops low f = go (ordered low (left map i)) refl
     where
@@ -52,7 +52,7 @@ module _ (map : List ℕ) (i : ℕ) (h : i < length map / 16) where
           absurd (f (o .0) (o .1) (o .2))
       go false e = refl
 
-  pub total-on : total (left map i) ≡ region map i .size + total (left map (i + 1))
+  pub total-on : total (left map i) ≡ region map i .length + total (left map (i + 1))
   unfolding total
   total-on = ap total next
 
@@ -60,7 +60,7 @@ module _ (map : List ℕ) (i : ℕ) (h : i < length map / 16) where
   uncovered-on a b l e =
       ap (λ (rs : List Region). uncovered rs a) next ∙ uncovered-step (region map i) (left map (i + 1)) a l ∙ ap (uncovered (left map (i + 1))) e
 
-  pub offset-on : (a : ℕ) → region map i .size ≤ a - region map i .base → offset (left map i) a ≡ region map i .size + offset (left map (i + 1)) a
+  pub offset-on : (a : ℕ) → region map i .length ≤ a - region map i .base → offset (left map i) a ≡ region map i .length + offset (left map (i + 1)) a
   unfolding offset
   offset-on a l = ap (λ (rs : List Region). offset rs a) next ∙ omega arith
 
@@ -99,7 +99,7 @@ module _ (map : List ℕ) (i : ℕ) (h : i < length map / 16) (o : ordered 0 (re
       ap (λ (rs : List Region). offset rs a) (next map i h) ∙ offset-none (region map i .base) (region map i ∷ left map (i + 1)) a here l
 
   -- within it, or at its end
-  pub offset-within : (a : ℕ) → a - region map i .base ≤ region map i .size → offset (left map i) a ≡ a - region map i .base
+  pub offset-within : (a : ℕ) → a - region map i .base ≤ region map i .length → offset (left map i) a ≡ a - region map i .base
   unfolding offset
   offset-within a l =
       ap (λ (rs : List Region). offset rs a) (next map i h)

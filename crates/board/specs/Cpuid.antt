@@ -1,4 +1,4 @@
--- The CPUID table ("Where the addresses really are"): which tables are taken, and what a lookup finds.
+-- The CPUID table: which tables are taken, and what a lookup finds.
 use mathlib.Core.Bool.{Bool, true, false, not, cond}
 use mathlib.Core.List.{List, [], _∷_}
 use Prim.Native.Nat.{ℕ, _+_, _*_, _/_, _%_}

@@ -1,4 +1,4 @@
-pub mod Board
 pub mod Cpuid
 pub mod Map
+pub mod Reach
 pub mod Records

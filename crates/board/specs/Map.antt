@@ -1,6 +1,5 @@
--- The memory map ("Where the addresses really are"): which maps are taken, which ranges are RAM and reachable,
--- and which byte of the lent memory an address is.
-use mathlib.Core.Bool.{Bool, true, false, not, _||_, cond}
+-- The memory map: which maps are taken, which ranges are RAM, and which byte of the lent memory an address is.
+use mathlib.Core.Bool.{Bool, true, false, not, cond}
 use mathlib.Core.List.{List, [], _∷_}
 use Prim.Native.Nat.{ℕ, _+_, _-_, _*_, _/_, _%_, _^_, min, max}
 use lib.Dec.{eqb, leb, ltb}
@@ -12,15 +11,15 @@ use Rattle.board.specs.Records.{records}
 
 pub record Region : Type 0 where
   pub base : ℕ
-  pub size : ℕ
+  pub length : ℕ
 
 -- the address behind a region's last byte
 abbrev pub end : Region → ℕ
-end r = r .base + r .size
+end r = r .base + r .length
 
 -- record i of the map: base, length, each 64-bit little-endian
 abbrev pub region : List ℕ → ℕ → Region
-region map i = record { base = little (part map (16 * i) 8); size = little (part map (16 * i + 8) 8) }
+region map i = record { base = little (part map (16 * i) 8); length = little (part map (16 * i + 8) 8) }
 
 abbrev pub regions : List ℕ → List Region
 regions map = records (region map) 0 (length map / 16)
@@ -29,13 +28,13 @@ regions map = records (region map) 0 (length map / 16)
 unfoldable pub ordered : ℕ → List Region → Bool
 ordered low [] = true
 ordered low (r ∷ rs) =
-    cond (ltb (r .size) 1) false
+    cond (ltb (r .length) 1) false
     (cond (ltb (r .base) low) false (cond (ltb (2 ^ 52) (end r)) false (ordered (end r) rs)))
 
 -- lent memory is the regions' bytes one behind the other
 unfoldable pub total : List Region → ℕ
 total [] = 0
-total (r ∷ rs) = r .size + total rs
+total (r ∷ rs) = r .length + total rs
 
 -- 2: the map breaks a rule, or the memory length differs: whole records, 1 to 16 of them, in order,
 -- at most 2^32 bytes in all, and as many as are lent
@@ -61,16 +60,4 @@ ram rs a n = leb (a + n) (uncovered rs a)
 -- the byte of lent memory that address a is: as many bytes of RAM lie below it
 unfoldable pub offset : List Region → ℕ → ℕ
 offset [] a = 0
-offset (r ∷ rs) a = min (r .size) (a - r .base) + offset rs a
-
--- 1: mode is 32 or 64
-abbrev pub modeRules : ℕ → List Rule
-modeRules mode = rule 1 (not (eqb mode 32 || eqb mode 64)) ∷ []
-
--- the reach limit of a mode, 32 or 64
-abbrev pub limit : ℕ → ℕ
-limit mode = cond (eqb mode 32) (2 ^ 32) (2 ^ 52)
-
--- a range of n bytes at a is reachable if a + n is at most the limit; for n = 0, a must be below it
-abbrev pub reachable : ℕ → ℕ → ℕ → Bool
-reachable top a n = leb (a + max n 1) top
+offset (r ∷ rs) a = min (r .length) (a - r .base) + offset rs a

@@ -1,5 +1,5 @@
 ghost use mathlib.Core.Path.{_≡_};
-ghost use mathlib.Core.Bool.{false, cond};
+ghost use mathlib.Core.Bool.{false, not, cond};
 ghost use Prim.Native.Nat.{_+_, _/_, _<_};
 ghost use denote.Ref.{now};
 ghost use lib.Dec.{eqb};
@@ -10,14 +10,17 @@ use crate::Found;
 use answers::codes;
 use octets::numbers;
 
+// The bytes of a record of the table.
+const RECORD: usize = 24;
+
 // Whether a CPUID table is taken: 0, or the refusal.
 pub fn table_code(table: &[u8]) -> u64
     ensures { λ r. ⌜ r ≡ firstBroken (spec.tableRules (now (table .entry))) ⌝ }
 {
-    if table.len() % 24 != 0 {
+    if table.len() % RECORD != 0 {
         return codes::TABLE;
     }
-    if 64 < table.len() / 24 {
+    if 64 < table.len() / RECORD {
         return codes::TABLE;
     }
     if !ascends(table) {
@@ -26,11 +29,18 @@ pub fn table_code(table: &[u8]) -> u64
     codes::DONE
 }
 
+// Whether the unit has the instruction: its table has a record.
+pub fn is_available(table: &[u8]) -> bool
+    ensures { λ r. ⌜ r ≡ not (eqb (length (spec.leaves (now (table .entry)))) 0) ⌝ }
+{
+    table.len() / RECORD != 0
+}
+
 // What the result register holds in the record that has both inputs.
 pub fn lookup(table: &[u8], eax: u32, ecx: u32, register: u64) -> Found
     ensures { λ r. ⌜ r ≡ spec.lookup (spec.leaves (now (table .entry))) eax ecx register ⌝ }
 {
-    let n = table.len() / 24;
+    let n = table.len() / RECORD;
     let mut i = 0;
     while i < n {
         if has_inputs(table, i, eax, ecx) {
@@ -58,14 +68,14 @@ fn eax_input(table: &[u8], i: usize) -> u32
     requires { ⌜ i < length (now table) / 24 ⌝ }
     ensures { λ r. ⌜ r ≡ spec.leaf (now (table .entry)) i .eaxInput ⌝ }
 {
-    numbers::little4(table, 24 * i)
+    numbers::little4(table, RECORD * i)
 }
 
 fn ecx_input(table: &[u8], i: usize) -> u32
     requires { ⌜ i < length (now table) / 24 ⌝ }
     ensures { λ r. ⌜ r ≡ spec.leaf (now (table .entry)) i .ecxInput ⌝ }
 {
-    numbers::little4(table, 24 * i + 4)
+    numbers::little4(table, RECORD * i + 4)
 }
 
 // A result register of record `i`.
@@ -73,7 +83,7 @@ fn result(table: &[u8], i: usize, register: u64) -> u32
     requires { ⌜ i < length (now table) / 24 ⌝ }
     ensures { λ r. ⌜ r ≡ spec.register register (spec.leaf (now (table .entry)) i) ⌝ }
 {
-    let at = 24 * i;
+    let at = RECORD * i;
     if register == 0 {
         return numbers::little4(table, at + 8);
     }
@@ -90,7 +100,7 @@ fn result(table: &[u8], i: usize, register: u64) -> u32
 fn ascends(table: &[u8]) -> bool
     ensures { λ r. ⌜ r ≡ spec.ascending (spec.leaves (now (table .entry))) ⌝ }
 {
-    let n = table.len() / 24;
+    let n = table.len() / RECORD;
     let mut i = 0;
     while i + 1 < n {
         if !is_before(table, i) {

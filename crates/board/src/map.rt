@@ -49,7 +49,7 @@ pub fn uncovered(map: &[u8], a: u64) -> u64
         if first < low {
             return first;
         }
-        first = later(first, low + size(map, i));
+        first = later(first, low + region_length(map, i));
         i += 1;
     }
     first
@@ -76,7 +76,7 @@ pub fn offset(map: &[u8], a: u64) -> usize
         if a <= low {
             return below as usize;
         }
-        let bytes = size(map, i);
+        let bytes = region_length(map, i);
         if a - low <= bytes {
             return (below + (a - low)) as usize;
         }
@@ -94,9 +94,9 @@ fn base(map: &[u8], i: usize) -> u64
     numbers::little8(map, 16 * i)
 }
 
-fn size(map: &[u8], i: usize) -> u64
+fn region_length(map: &[u8], i: usize) -> u64
     requires { ⌜ i < length (now map) / 16 ⌝ }
-    ensures { λ r. ⌜ r ≡ spec.region (now (map .entry)) i .size ⌝ }
+    ensures { λ r. ⌜ r ≡ spec.region (now (map .entry)) i .length ⌝ }
 {
     numbers::little8(map, 16 * i + 8)
 }
@@ -119,7 +119,7 @@ fn in_order(map: &[u8]) -> bool
     let mut i = 0;
     while i < n {
         let first = base(map, i);
-        let bytes = size(map, i);
+        let bytes = region_length(map, i);
         if bytes < 1 {
             return false;
         }
@@ -147,7 +147,7 @@ fn total(map: &[u8]) -> u64
     let mut sum: u64 = 0;
     let mut i = 0;
     while i < n {
-        sum += size(map, i);
+        sum += region_length(map, i);
         i += 1;
     }
     sum

@@ -1,6 +1,6 @@
 ghost use mathlib.Core.Path.{_≡_};
 ghost use Rattle.answers.specs.Rules.{firstBroken};
-ghost use Rattle.board.specs.Map.{modeRules, limit, reachable};
+ghost use Rattle.board.specs.Reach.{modeRules, limit, reachable};
 use answers::codes;
 
 // Mode is 32 or 64: 0, or the refusal.

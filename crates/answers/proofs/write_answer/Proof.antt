@@ -13,7 +13,7 @@ returns c =
     let d₂ = d₃ .before .before .before .before in
     let d₁ = d₂ .before .before .before .before in
     let start = d₁ .before .before .before in (
-      record-written (start .args .a) (start .args .held .now) _ _ _ _ _ (start .pre) (d₁ .put-little8 .ensures) (d₂ .put-little82 .ensures)
+      record-written (start .args .a) (start .args .answer .now) _ _ _ _ _ (start .pre) (d₁ .put-little8 .ensures) (d₂ .put-little82 .ensures)
           (d₃ .put-little83 .ensures) (d₄ .put-little84 .ensures) (d₅ .put-little85 .ensures),
       refl,
     )

@@ -3,7 +3,7 @@ use mathlib.Core.Path.{sym, ap, _∙_}
 use Prim.Native.Nat.{ℕ}
 use lib.Dec.{eqb}
 use borrow.Author.Needs.{needs}
-use Rattle.board.proofs.TestLaws.{cond-eq, cond-ne}
+use Rattle.answers.proofs.ChoiceLaws.{cond-eq, cond-ne}
 use Rattle.board.proofs.cpuid.has_inputs.Statement.{statement}
 use Rattle.board.proofs.cpuid.has_inputs.Tie as tie
 

@@ -2,7 +2,7 @@
 use mathlib.Core.Path.{sym, ap₂, _∙_}
 use lib.Dec.{ltb}
 use borrow.Author.Needs.{needs}
-use Rattle.board.proofs.TestLaws.{cond-eq, cond-ne}
+use Rattle.answers.proofs.ChoiceLaws.{cond-eq, cond-ne}
 use Rattle.board.proofs.cpuid.is_before.Statement.{statement}
 use Rattle.board.proofs.cpuid.is_before.Tie as tie
 

@@ -1,7 +1,7 @@
 -- Each return has the tests that led there.
 use mathlib.Core.Path.{sym, _∙_}
 use borrow.Author.Needs.{needs}
-use Rattle.board.proofs.TestLaws.{cond-eq, cond-ne}
+use Rattle.answers.proofs.ChoiceLaws.{cond-eq, cond-ne}
 use Rattle.board.proofs.cpuid.result.Statement.{statement}
 use Rattle.board.proofs.cpuid.result.Tie as tie
 

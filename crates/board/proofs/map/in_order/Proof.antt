@@ -15,13 +15,13 @@ abbrev μ-loop : tie.MeasureT-loop
 μ-loop map n low₀ i₀ low i = n - i
 
 -- region i breaks a rule, as the code has its numbers
-stops : (c : tie.After-size Inv-loop μ-loop)
-    → (1 ≤ c .size .result → c .before .before .before .loop .low ≤ c .before .base .result → c .before .base .result + c .size .result ≤ 2 ^ 52 → ⊥)
+stops : (c : tie.After-region-length Inv-loop μ-loop)
+    → (1 ≤ c .region-length .result → c .before .before .before .loop .low ≤ c .before .base .result → c .before .base .result + c .region-length .result ≤ 2 ^ 52 → ⊥)
     → false ≡ ordered 0 (regions (c .before .before .before .before .before .args .map .now))
 stops c f =
     let l = c .before .before .before .loop in
     let b = c .before .base .ensures in
-    let s = c .size .ensures in
+    let s = c .region-length .ensures in
     sym
     (l .inv .1
     ∙ ordered-stops (c .before .before .before .before .before .args .map .now) (l .i) (c .before .before .loop-test .taken) (l .low)
@@ -34,7 +34,7 @@ loop-again c =
     let map = d .before .before .before .before .before .args .map .now in (
       omega arith,
       l .inv .1
-          ∙ ordered-on map (l .i) (omega arith) (l .low) (d .before .base .result + d .size .result) (omega arith) (omega arith) (omega arith)
+          ∙ ordered-on map (l .i) (omega arith) (l .low) (d .before .base .result + d .region-length .result) (omega arith) (omega arith) (omega arith)
           (omega arith),
     )
 

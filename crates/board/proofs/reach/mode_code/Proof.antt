@@ -2,7 +2,7 @@ use mathlib.Core.Path.{_≡_, sym, ap}
 use Prim.Native.Nat.{ℕ}
 use borrow.Author.Tests.{ne-eqb}
 use Rattle.answers.specs.Rules.{firstBroken}
-use Rattle.board.specs.Map.{modeRules}
+use Rattle.board.specs.Reach.{modeRules}
 use Rattle.board.proofs.reach.mode_code.Statement.{statement}
 use Rattle.board.proofs.reach.mode_code.Tie as tie
 
