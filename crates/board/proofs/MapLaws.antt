@@ -191,6 +191,21 @@ module _ (low : ℕ) (rs : List Region) (o : Ordered low rs) where
   pub offset-fits : (a n : ℕ) → ram rs a n ≡ true → offset rs a + n ≤ total rs
   offset-fits a n h = omega (arith, offset-runs-on a n n h (omega arith), offset-le-total rs (a + n))
 
+-- each byte of the lent memory is a covered address's
+pub offset-onto : (low : ℕ) (rs : List Region) (k : ℕ) → Ordered low rs → k < total rs → (x : ℕ) × Covered rs x × (offset rs x ≡ k)
+unfolding total offset
+offset-onto low [] k h l = absurd (omega arith)
+offset-onto low (r ∷ rs) k h l = go (le-or-lt (r .length) k) (offset-onto (end r) rs (k - r .length) (h .3))
+  where
+    go : (r .length ≤ k) ⊎ (k < r .length)
+        → (k - r .length < total rs → (x : ℕ) × Covered rs x × (offset rs x ≡ k - r .length))
+        → (x : ℕ) × Covered (r ∷ rs) x × (offset (r ∷ rs) x ≡ k)
+    go (inl m) below =
+        let (x, d, e) = below (omega arith) in
+        (x, inr d, omega (arith, e, covered-above (end r) rs x (h .3) d))
+    go (inr m) below =
+        (r .base + k, inl (omega arith, omega arith), omega (arith, offset-none (end r) rs (r .base + k) (h .3) (omega arith)))
+
 -- ---- regions by their numbers
 
 module _ (read : ℕ → Region) where
@@ -269,9 +284,9 @@ module _ (read : ℕ → Region) where
 -- ---- a map that is taken
 
 pub record MapTaken (map : List ℕ) (memory : ℕ) : Type 0 where
-  pub whole : length map % 16 ≡ 0
-  pub some : 1 ≤ length map / 16
-  pub few : length map / 16 ≤ 16
+  pub records : length map % 16 ≡ 0
+  pub nonempty : 1 ≤ length map / 16
+  pub bounded : length map / 16 ≤ 16
   pub order : Ordered 0 (regions map)
   pub small : total (regions map) ≤ 2 ^ 32
   pub lent : memory ≡ total (regions map)
@@ -281,9 +296,9 @@ module _ (map : List ℕ) (memory : ℕ) where
   all-means h =
       let nonzero = eqb-false (length map / 16) 0 (h .1 .0) in
       record {
-        whole = eqb-true _ _ (not-false _ (h .0));
-        some = omega arith;
-        few = ltb-false _ _ (h .1 .1 .0);
+        records = eqb-true _ _ (not-false _ (h .0));
+        nonempty = omega arith;
+        bounded = ltb-false _ _ (h .1 .1 .0);
         order = ordered-means 0 (regions map) (not-false _ (h .1 .1 .1 .0));
         small = ltb-false _ _ (h .1 .1 .1 .1 .0);
         lent = eqb-true _ _ (not-false _ (h .1 .1 .1 .1 .1 .0));
@@ -299,11 +314,11 @@ module _ (map : List ℕ) (memory : ℕ) where
   pub map-holds : MapTaken map memory → firstBroken (mapRules map memory) ≡ 0
   map-holds t =
       all-hold-zero (mapRules map memory) (
-        ap not (eq-eqb _ _ (t .whole)),
+        ap not (eq-eqb _ _ (t .records)),
         (
           ne-eqb (length map / 16) 0 (omega arith),
           (
-            le-ltb _ _ (t .few),
+            le-ltb _ _ (t .bounded),
             (ap not (ordered-holds 0 (regions map) (t .order)), (le-ltb _ _ (t .small), (ap not (eq-eqb _ _ (t .lent)), tt))),
           ),
         ),

@@ -156,16 +156,16 @@ module _ (read : ℕ → Leaf) (eax ecx k : ℕ) where
 -- ---- a table that is taken
 
 pub record TableTaken (table : List ℕ) : Type 0 where
-  pub whole : length table % 24 ≡ 0
-  pub few : length table / 24 ≤ 64
+  pub records : length table % 24 ≡ 0
+  pub bounded : length table / 24 ≤ 64
   pub order : Ascends (leaf table) (length table / 24)
 
 module _ (table : List ℕ) where
   all-means : AllHold (tableRules table) → TableTaken table
   all-means h =
       record {
-        whole = eqb-true _ _ (not-false _ (h .0));
-        few = ltb-false _ _ (h .1 .0);
+        records = eqb-true _ _ (not-false _ (h .0));
+        bounded = ltb-false _ _ (h .1 .0);
         order = ascends-means (leaf table) (length table / 24) (not-false _ (h .1 .1 .0));
       }
 
@@ -178,4 +178,4 @@ module _ (table : List ℕ) where
   pub table-holds : TableTaken table → firstBroken (tableRules table) ≡ 0
   table-holds t =
       all-hold-zero (tableRules table)
-      (ap not (eq-eqb _ _ (t .whole)), (le-ltb _ _ (t .few), (ap not (ascends-holds (leaf table) (length table / 24) (t .order)), tt)))
+      (ap not (eq-eqb _ _ (t .records)), (le-ltb _ _ (t .bounded), (ap not (ascends-holds (leaf table) (length table / 24) (t .order)), tt)))

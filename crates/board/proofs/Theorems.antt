@@ -14,7 +14,7 @@ use Rattle.board.specs.Cpuid.{leaf, leaves, tableRules, register, lookup
 use Rattle.board.specs.Map.{Region, region, end, regions, total, mapRules, uncovered, ram, offset}
 use Rattle.board.specs.Reach.{reachable}
 use Rattle.board.specs.declared.Found.the-variants.{Word, Nothing}
-use Rattle.board.proofs.MapLaws.{Ordered, MapTaken, map-means, map-holds, ordered-in-order, in-order-ordered}
+use Rattle.board.proofs.MapLaws.{Ordered, MapTaken, map-means, map-holds, ordered-in-order, in-order-ordered, offset-onto}
 use Rattle.board.proofs.MapLaws.{In, Covered, covered-by, covered-some, covered-ram, ram-covered, uncovered-above, uncovered-covered, uncovered-not}
 use Rattle.board.proofs.MapLaws.{offset-in-region, offset-injective, offset-inside, offset-runs-on, offset-fits}
 use Rattle.board.proofs.RunLaws.{take-records}
@@ -25,10 +25,10 @@ use Rattle.board.proofs.TableLaws.{table-means, table-holds, has-once, 
 -- The rules on the map and on the lent memory, one by one.
 pub record MapHolds (map : List ℕ) (memory : ℕ) : Type 0 where
   -- a run of 16-byte records
-  pub whole : length map % 16 ≡ 0
+  pub records : length map % 16 ≡ 0
   -- 1 to 16 regions
-  pub some : 1 ≤ length map / 16
-  pub few : length map / 16 ≤ 16
+  pub nonempty : 1 ≤ length map / 16
+  pub bounded : length map / 16 ≤ 16
   -- each length at least 1
   pub sizes : (i : ℕ) → i < length map / 16 → 1 ≤ region map i .length
   -- each base at or above the end of the region before
@@ -51,9 +51,9 @@ map-taken map memory = (λ z. means (map-means map memory z), λ m. map-holds ma
     means t =
         let o = ordered-in-order (region map) 0 0 n (t .order) in
         record {
-          whole = t .whole;
-          some = t .some;
-          few = t .few;
+          records = t .records;
+          nonempty = t .nonempty;
+          bounded = t .bounded;
           sizes = λ i h. o .sizes i (omega arith) (omega arith);
           bases = λ i h. o .bases i (omega arith) (omega arith);
           ends = λ i h. o .ends i (omega arith) (omega arith);
@@ -64,9 +64,9 @@ map-taken map memory = (λ z. means (map-means map memory z), λ m. map-holds ma
     holds : MapHolds map memory → MapTaken map memory
     holds m =
         record {
-          whole = m .whole;
-          some = m .some;
-          few = m .few;
+          records = m .records;
+          nonempty = m .nonempty;
+          bounded = m .bounded;
           order = in-order-ordered (region map) 0 0 n
               (record {
                 first = λ p. omega arith;
@@ -139,6 +139,13 @@ module _ (map : List ℕ) (memory : ℕ) (taken : firstBroken (mapRules map memo
   pub memory-bytes-differ : (x y : ℕ) → IsRam map x → IsRam map y → offset (regions map) x ≡ offset (regions map) y → x ≡ y
   memory-bytes-differ x y p q = offset-injective 0 (regions map) order x y (is-ram-covered map x p) (is-ram-covered map y q)
 
+  -- Each byte of the lent memory is that of exactly one address of RAM.
+  pub memory-byte-onto : (k : ℕ) → k < memory
+      → (x : ℕ) × IsRam map x × (offset (regions map) x ≡ k) × ((y : ℕ) → IsRam map y → offset (regions map) y ≡ k → y ≡ x)
+  memory-byte-onto k h =
+      let (x, d, e) = offset-onto 0 (regions map) k order (omega (arith, map-means map memory taken .lent)) in
+      (x, covered-is-ram map x d, e, λ y q f. memory-bytes-differ y x q (covered-is-ram map x d) (f ∙ sym e))
+
   -- The byte of an address of RAM, and all of a range that is RAM, lies in the lent memory.
   pub memory-byte-inside : (x : ℕ) → IsRam map x → offset (regions map) x < memory
   memory-byte-inside x p = omega (arith, map-means map memory taken .lent, offset-inside 0 (regions map) order x (is-ram-covered map x p))
@@ -151,9 +158,9 @@ module _ (map : List ℕ) (memory : ℕ) (taken : firstBroken (mapRules map memo
 -- The rules on the table, one by one.
 pub record TableHolds (table : List ℕ) : Type 0 where
   -- a run of 24-byte records
-  pub whole : length table % 24 ≡ 0
+  pub records : length table % 24 ≡ 0
   -- at most 64 of them
-  pub few : length table / 24 ≤ 64
+  pub bounded : length table / 24 ≤ 64
   -- strictly ascending by EAX input and then ECX input
   pub ascend : (i j : ℕ) → i < j → j < length table / 24
       → (leaf table i .eaxInput < leaf table j .eaxInput)
@@ -162,8 +169,8 @@ pub record TableHolds (table : List ℕ) : Type 0 where
 -- A table is taken exactly if each rule holds.
 pub table-taken : (table : List ℕ) → (firstBroken (tableRules table) ≡ 0) ↔ TableHolds table
 table-taken table = (
-  λ z. let t = table-means table z in record { whole = t .whole; few = t .few; ascend = t .order },
-  λ h. table-holds table (record { whole = h .whole; few = h .few; order = h .ascend }),
+  λ z. let t = table-means table z in record { records = t .records; bounded = t .bounded; ascend = t .order },
+  λ h. table-holds table (record { records = h .records; bounded = h .bounded; order = h .ascend }),
 )
 
 -- Record i of the table has both inputs.

@@ -19,20 +19,24 @@ pub record Leaf : Type 0 where
   pub ecx : ℕ
   pub edx : ℕ
 
+-- the bytes of a record
+abbrev pub leafBytes : ℕ
+leafBytes = 24
+
 -- record i of the table: six 32-bit little-endian words
 abbrev pub leaf : List ℕ → ℕ → Leaf
 leaf table i =
     record {
-      eaxInput = little (part table (24 * i) 4);
-      ecxInput = little (part table (24 * i + 4) 4);
-      eax = little (part table (24 * i + 8) 4);
-      ebx = little (part table (24 * i + 12) 4);
-      ecx = little (part table (24 * i + 16) 4);
-      edx = little (part table (24 * i + 20) 4);
+      eaxInput = little (part table (leafBytes * i) 4);
+      ecxInput = little (part table (leafBytes * i + 4) 4);
+      eax = little (part table (leafBytes * i + 8) 4);
+      ebx = little (part table (leafBytes * i + 12) 4);
+      ecx = little (part table (leafBytes * i + 16) 4);
+      edx = little (part table (leafBytes * i + 20) 4);
     }
 
 abbrev pub leaves : List ℕ → List Leaf
-leaves table = records (leaf table) 0 (length table / 24)
+leaves table = records (leaf table) 0 (length table / leafBytes)
 
 -- p comes before q: by EAX input and then ECX input
 abbrev pub before : Leaf → Leaf → Bool
@@ -48,8 +52,8 @@ ascending (p ∷ (q ∷ rest)) = cond (before p q) (ascending (q ∷ rest)) fals
 -- 3: the table isn't whole records, has more than 64, or they do not ascend
 abbrev pub tableRules : List ℕ → List Rule
 tableRules table =
-    rule 3 (not (eqb (length table % 24) 0))
-    ∷ rule 3 (ltb 64 (length table / 24))
+    rule 3 (not (eqb (length table % leafBytes) 0))
+    ∷ rule 3 (ltb 64 (length table / leafBytes))
     ∷ rule 3 (not (ascending (leaves table)))
     ∷ []
 

@@ -12,7 +12,7 @@ use Rattle.board.proofs.cpuid.table_code.Statement.{statement}
 use Rattle.board.proofs.cpuid.table_code.Tie as tie
 
 returns : tie.Need-returns
-returns c = table-refused (c .before .before .args .table .now) (λ t. c .if1 .taken (t .whole))
+returns c = table-refused (c .before .before .args .table .now) (λ t. c .if1 .taken (t .records))
 
 returns-2 : tie.Need-returns-2
 returns-2 c = table-refused (c .before .before .before .args .table .now) (λ t. omega arith)
@@ -29,8 +29,8 @@ returns-4 c =
     sym
     (table-holds table
     (record {
-      whole = omega arith;
-      few = omega arith;
+      records = omega arith;
+      bounded = omega arith;
       order = ascends-means (leaf table) (length table / 24) (sym (c .before .ascends .ensures) ∙ not-false _ (c .if3 .left));
     }))
 

@@ -12,7 +12,7 @@ use Rattle.board.proofs.map.map_code.Tie as tie
 returns : tie.Need-returns
 returns c =
     let a = c .before .before .args in
-    map-refused (a .map .now) (a .memory) (λ t. c .if1 .taken (t .whole))
+    map-refused (a .map .now) (a .memory) (λ t. c .if1 .taken (t .records))
 
 returns-2 : tie.Need-returns-2
 returns-2 c =
@@ -50,9 +50,9 @@ returns-7 c =
     sym
     (map-holds (a .map .now) (a .memory)
     (record {
-      whole = omega arith;
-      some = omega arith;
-      few = omega arith;
+      records = omega arith;
+      nonempty = omega arith;
+      bounded = omega arith;
       order = ordered-means 0 (regions (a .map .now)) (sym (d .before .in-order .ensures) ∙ not-false _ (d .if4 .left));
       small = omega arith;
       lent = omega arith;
