@@ -50,7 +50,8 @@ module _ (old : List ℕ) (a : Answer) (before after : List ℕ) where
       outcome b x y = cond b (given a y) (unwritten old x)
 
       alike : (b : Bool)
-          → (outcome b before after .code ≡ outcome b before′ after′ .code) × (outcome b before after .answer ≡ outcome b before′ after′ .answer)
+          → (outcome b before after .code ≡ outcome b before′ after′ .code)
+          × (outcome b before after .answer ≡ outcome b before′ after′ .answer)
       alike true = (refl, refl)
       alike false = (refl, refl)
 

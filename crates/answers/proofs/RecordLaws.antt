@@ -31,9 +31,11 @@ module _ (a : Answer) (l₀ l₁ l₂ l₃ l₄ l₅ : List ℕ) (n : length l�
       e₅ refl (omega arith)
       ∙ ap (λ (t : List ℕ). recordBytes a ++ t) (drop-of-length-le l₀ {i = recordLength} (omega arith)) ∙ append-nil (recordBytes a)
     where
-      joined : (k : ℕ) (v w : List ℕ) {l m : List ℕ} → l ≡ put l₀ 0 v → m ≡ put l k w → length v ≡ k → k + length w ≤ recordLength → m ≡ put l₀ 0 (v ++ w)
+      joined : (k : ℕ) (v w : List ℕ) {l m : List ℕ} → l ≡ put l₀ 0 v → m ≡ put l k w → length v ≡ k → k + length w ≤ recordLength
+          → m ≡ put l₀ 0 (v ++ w)
       joined k v w f g h fits =
-          g ∙ ap (λ (t : List ℕ). put t k w) f ∙ ap (λ (i : ℕ). put (put l₀ 0 v) i w) (sym (zero-add k)) ∙ put-beside l₀ 0 k v w h (omega arith)
+          g ∙ ap (λ (t : List ℕ). put t k w) f ∙ ap (λ (i : ℕ). put (put l₀ 0 v) i w) (sym (zero-add k))
+          ∙ put-beside l₀ 0 k v w h (omega arith)
 
       c : List ℕ
       c = littleBytes 8 (a .code)

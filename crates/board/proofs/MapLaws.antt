@@ -33,7 +33,8 @@ ordered-means low (r ∷ rs) h =
     let d = cond-false (ltb (2 ^ 52) (end r)) (ordered (end r) rs) (b .1) in
     (ltb-false _ _ (a .0), ltb-false _ _ (b .0), ltb-false _ _ (d .0), ordered-means (end r) rs (d .1))
 
-pub ordered-step : (low : ℕ) (r : Region) (rs : List Region) → 1 ≤ r .length → low ≤ r .base → end r ≤ 2 ^ 52 → ordered low (r ∷ rs) ≡ ordered (end r) rs
+pub ordered-step : (low : ℕ) (r : Region) (rs : List Region) → 1 ≤ r .length → low ≤ r .base → end r ≤ 2 ^ 52
+    → ordered low (r ∷ rs) ≡ ordered (end r) rs
 unfolding ordered
 ordered-step low r rs a b c = simp (le-ltb (r .length) 1 a, le-ltb (r .base) low b, le-ltb (2 ^ 52) (end r) c)
 

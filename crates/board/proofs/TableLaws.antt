@@ -86,7 +86,8 @@ module _ (read : ℕ → Leaf) where
       next = ascending-adjacent 0 n h
 
       far : (d : ℕ) → suc (i + d) < n → Before (read i) (read (suc (i + d)))
-      far zero b = let e : i ≡ i + 0 = omega arith in subst (λ (k : ℕ). Before (read i) (read (suc k))) e (next i (omega arith) (omega arith))
+      far zero b = let e : i ≡ i + 0 = omega arith in
+          subst (λ (k : ℕ). Before (read i) (read (suc k))) e (next i (omega arith) (omega arith))
       far (suc d) b =
           let e : suc (i + d) ≡ i + suc d = omega arith in
           before-trans (read i) (read (suc (i + d))) (read (suc (i + suc d))) (far d (omega arith))
@@ -177,5 +178,7 @@ module _ (table : List ℕ) where
 
   pub table-holds : TableTaken table → firstBroken (tableRules table) ≡ 0
   table-holds t =
-      all-hold-zero (tableRules table)
-      (ap not (eq-eqb _ _ (t .records)), (le-ltb _ _ (t .bounded), (ap not (ascends-holds (leaf table) (length table / 24) (t .order)), tt)))
+      all-hold-zero (tableRules table) (
+        ap not (eq-eqb _ _ (t .records)),
+        (le-ltb _ _ (t .bounded), (ap not (ascends-holds (leaf table) (length table / 24) (t .order)), tt)),
+      )

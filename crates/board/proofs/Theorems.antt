@@ -15,7 +15,8 @@ use Rattle.board.specs.Map.{Region, region, end, regions, total, mapRule
 use Rattle.board.specs.Reach.{reachable}
 use Rattle.board.specs.declared.Found.the-variants.{Word, Nothing}
 use Rattle.board.proofs.MapLaws.{Ordered, MapTaken, map-means, map-holds, ordered-in-order, in-order-ordered, offset-onto}
-use Rattle.board.proofs.MapLaws.{In, Covered, covered-by, covered-some, covered-ram, ram-covered, uncovered-above, uncovered-covered, uncovered-not}
+use Rattle.board.proofs.MapLaws.{In, Covered, covered-by, covered-some, covered-ram, ram-covered, uncovered-above}
+use Rattle.board.proofs.MapLaws.{uncovered-covered, uncovered-not}
 use Rattle.board.proofs.MapLaws.{offset-in-region, offset-injective, offset-inside, offset-runs-on, offset-fits}
 use Rattle.board.proofs.RunLaws.{take-records}
 use Rattle.board.proofs.TableLaws.{table-means, table-holds, has-once, Finds, lookup-finds}
@@ -127,7 +128,8 @@ module _ (map : List ℕ) (memory : ℕ) (taken : firstBroken (mapRules map memo
   -- Its distance from its region's base, behind the bytes of the regions before: they lie in map order, one behind the other.
   pub memory-byte : (i x : ℕ) → InRegion map i x → offset (regions map) x ≡ x - region map i .base + total (take i (regions map))
   memory-byte i x h =
-      offset-in-region (region map) 0 0 (length map / 16) i x order (h .0) (subst (λ (k : ℕ). In (region map k) x) (sym (zero-add i)) (h .1, h .2))
+      offset-in-region (region map) 0 0 (length map / 16) i x order (h .0)
+      (subst (λ (k : ℕ). In (region map k) x) (sym (zero-add i)) (h .1, h .2))
       ∙ ap₂ (λ (k : ℕ) (rs : List Region). x - region map k .base + total rs) (zero-add i)
       (sym (take-records (region map) 0 (length map / 16) i (omega arith)))
 
@@ -192,7 +194,8 @@ module _ (table : List ℕ) (taken : firstBroken (tableRules table) ≡ 0) (eax 
       go (inl w) = w .4 ∙ ap (λ (k : ℕ). Word (register n (leaf table k))) (lookup-only (w .0) i (omega arith) p)
       go (inr w) = absurd (w .0 i (omega arith) (omega arith) (p .1, p .2))
 
-  pub lookup-found : (n x : ℕ) → lookup (leaves table) eax ecx n ≡ Word x → (i : ℕ) × RecordHas table eax ecx i × (x ≡ register n (leaf table i))
+  pub lookup-found : (n x : ℕ) → lookup (leaves table) eax ecx n ≡ Word x
+      → (i : ℕ) × RecordHas table eax ecx i × (x ≡ register n (leaf table i))
   lookup-found n x e = go (lookup-finds (leaf table) eax ecx n 0 (length table / 24))
     where
       go : Finds (leaf table) eax ecx n 0 (length table / 24) (lookup (leaves table) eax ecx n)
@@ -201,7 +204,11 @@ module _ (table : List ℕ) (taken : firstBroken (tableRules table) ≡ 0) (eax 
       go (inr w) = absurd (let z : _≡_ {A = ℕ} 0 1 = cc (w .1) in omega arith)
 
   pub lookup-nothing : (n : ℕ) → (lookup (leaves table) eax ecx n ≡ Nothing) ↔ ((i : ℕ) → RecordHas table eax ecx i → ⊥)
-  lookup-nothing n = (λ e i p. let q = lookup-record n i p in let z : _≡_ {A = ℕ} 0 1 = cc in omega arith, λ none. go none (lookup-finds (leaf table) eax ecx n 0 (length table / 24)))
+  lookup-nothing n = (
+    λ e i p. let q = lookup-record n i p in let z : _≡_ {A = ℕ} 0 1 = cc in
+        omega arith,
+    λ none. go none (lookup-finds (leaf table) eax ecx n 0 (length table / 24)),
+  )
     where
       go : ((i : ℕ) → RecordHas table eax ecx i → ⊥) → Finds (leaf table) eax ecx n 0 (length table / 24) (lookup (leaves table) eax ecx n)
           → lookup (leaves table) eax ecx n ≡ Nothing

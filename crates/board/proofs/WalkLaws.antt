@@ -14,7 +14,8 @@ use Rattle.board.specs.Cpuid.{Leaf, leaf, leaves, before, ascending, reg
 use Rattle.board.specs.Map.{Region, region, regions, end, ordered, total, uncovered, offset}
 use Rattle.board.specs.Records.{records}
 use Rattle.board.specs.declared.Found.the-variants.{Word}
-use Rattle.board.proofs.MapLaws.{Ordered, ordered-means, ordered-step, total-fits, uncovered-step, uncovered-below, offset-none, offset-le-total}
+use Rattle.board.proofs.MapLaws.{Ordered, ordered-means, ordered-step, total-fits, uncovered-step, uncovered-below}
+use Rattle.board.proofs.MapLaws.{offset-none, offset-le-total}
 use Rattle.board.proofs.RunLaws.{records-next, records-end}
 use Rattle.board.proofs.TableLaws.{lookup-hit, lookup-miss}
 use Rattle.answers.proofs.ChoiceLaws.{cond-true, cond-eq}
@@ -36,7 +37,8 @@ module _ (map : List ℕ) (i : ℕ) (h : i < length map / 16) where
   next = records-next (region map) i (length map / 16) h
 
   -- the region keeps the rules: go on above its end
-  pub ordered-on : (low high : ℕ) → 1 ≤ region map i .length → low ≤ region map i .base → end (region map i) ≤ 2 ^ 52 → end (region map i) ≡ high
+  pub ordered-on : (low high : ℕ) → 1 ≤ region map i .length → low ≤ region map i .base → end (region map i) ≤ 2 ^ 52
+      → end (region map i) ≡ high
       → ordered low (left map i) ≡ ordered high (left map (i + 1))
   ordered-on low high a b c e =
       ap (ordered low) next ∙ ordered-step low (region map i) (left map (i + 1)) a b c ∙ ap (λ (k : ℕ). ordered k (left map (i + 1))) e
@@ -56,11 +58,14 @@ module _ (map : List ℕ) (i : ℕ) (h : i < length map / 16) where
   unfolding total
   total-on = ap total next
 
-  pub uncovered-on : (a b : ℕ) → region map i .base ≤ a → max a (end (region map i)) ≡ b → uncovered (left map i) a ≡ uncovered (left map (i + 1)) b
+  pub uncovered-on : (a b : ℕ) → region map i .base ≤ a → max a (end (region map i)) ≡ b
+      → uncovered (left map i) a ≡ uncovered (left map (i + 1)) b
   uncovered-on a b l e =
-      ap (λ (rs : List Region). uncovered rs a) next ∙ uncovered-step (region map i) (left map (i + 1)) a l ∙ ap (uncovered (left map (i + 1))) e
+      ap (λ (rs : List Region). uncovered rs a) next ∙ uncovered-step (region map i) (left map (i + 1)) a l
+      ∙ ap (uncovered (left map (i + 1))) e
 
-  pub offset-on : (a : ℕ) → region map i .length ≤ a - region map i .base → offset (left map i) a ≡ region map i .length + offset (left map (i + 1)) a
+  pub offset-on : (a : ℕ) → region map i .length ≤ a - region map i .base
+      → offset (left map i) a ≡ region map i .length + offset (left map (i + 1)) a
   unfolding offset
   offset-on a l = ap (λ (rs : List Region). offset rs a) next ∙ omega arith
 
@@ -92,7 +97,8 @@ module _ (map : List ℕ) (i : ℕ) (h : i < length map / 16) (o : ordered 0 (re
   -- below the region nothing more is covered, and no byte lies
   pub uncovered-stops : (a : ℕ) → a < region map i .base → uncovered (left map i) a ≡ a
   uncovered-stops a l =
-      ap (λ (rs : List Region). uncovered rs a) (next map i h) ∙ uncovered-below (region map i .base) (region map i ∷ left map (i + 1)) a here l
+      ap (λ (rs : List Region). uncovered rs a) (next map i h)
+      ∙ uncovered-below (region map i .base) (region map i ∷ left map (i + 1)) a here l
 
   pub offset-stops : (a : ℕ) → a ≤ region map i .base → offset (left map i) a ≡ 0
   offset-stops a l =

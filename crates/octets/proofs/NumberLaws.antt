@@ -2,7 +2,8 @@
 use mathlib.Core.Path.{_≡_, refl, sym, ap, ap₂, _∙_, subst}
 use mathlib.Core.List.{List, [], _∷_, _++_, reverse, reverseAux, reverse-append, reverse-reverse}
 use Prim.Native.Nat.{ℕ, zero, suc, _+_, _*_, _/_, _%_, _^_, _≤_, _<_}
-use native.Mathlib.Nat.{mul-comm, mul-assoc, pow-suc, zero-add, suc-add, mod-lt, mod-one, mod-eq-of-lt, div-one, div-div-eq-div-mul, one-le-pow, zero-lt-suc}
+use native.Mathlib.Nat.{mul-comm, mul-assoc, pow-suc, zero-add, suc-add, mod-lt, mod-one, mod-eq-of-lt, div-one}
+use native.Mathlib.Nat.{div-div-eq-div-mul, one-le-pow, zero-lt-suc}
 use native.Mathlib.Omega.{arith}
 use lib.Arith.{mod-mul, digits-div, digits-mod, digits-lt}
 use lib.Bits.{bitOr, or-shifted-r}
@@ -49,7 +50,8 @@ module _ (s : List ℕ) (at n : ℕ) (fits : at + (n + n) ≤ length s) where
         ap (bitOr lo) (shl-exact k k w high room) ∙ or-shifted-r hi k lo low
         ∙ omega (arith, ap (λ (p : ℕ). hi * p) bytes, mul-comm hi (256 ^ n))
 
-    pub joined-little : lo ≡ little (part s at n) → hi ≡ little (part s (at + n) n) → bitOr lo (hi * 2 ^ k % 2 ^ w) ≡ little (part s at (n + n))
+    pub joined-little : lo ≡ little (part s at n) → hi ≡ little (part s (at + n) n)
+        → bitOr lo (hi * 2 ^ k % 2 ^ w) ≡ little (part s at (n + n))
     joined-little l h = joined ∙ ap₂ (λ (x y : ℕ). x + 256 ^ n * y) l h ∙ sym little-halves
 
     pub joined-big : lo ≡ big (part s (at + n) n) → hi ≡ big (part s at n) → bitOr lo (hi * 2 ^ k % 2 ^ w) ≡ big (part s at (n + n))
@@ -148,7 +150,8 @@ littleBytes-mod n x =
     ∙ littleBytes-little (littleBytes n x) (octets-littleBytes n x)
 
 module _ (s t u : List ℕ) (at n x : ℕ) (fits : at + (n + n) ≤ length s) where
-  pub put-little : t ≡ put s at (littleBytes n (x % 256 ^ n)) → u ≡ put t (at + n) (littleBytes n (x / 256 ^ n)) → u ≡ put s at (littleBytes (n + n) x)
+  pub put-little : t ≡ put s at (littleBytes n (x % 256 ^ n)) → u ≡ put t (at + n) (littleBytes n (x / 256 ^ n))
+      → u ≡ put s at (littleBytes (n + n) x)
   put-little e f =
       f ∙ ap (λ (r : List ℕ). put r (at + n) (littleBytes n (x / 256 ^ n))) e
       ∙ put-beside s at n (littleBytes n (x % 256 ^ n)) (littleBytes n (x / 256 ^ n)) (length-littleBytes n (x % 256 ^ n))

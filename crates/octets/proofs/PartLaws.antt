@@ -6,7 +6,8 @@ use native.Mathlib.Nat.{le-antisymm, add-sub-of-le, zero-add, suc-add, add-assoc
 use native.Mathlib.Numerals.{add-one}
 use native.Mathlib.Omega.{arith}
 use lib.ListN.{length, getD, set, take, drop, replicate, length-append, length-take, length-drop, length-replicate, getD-replicate}
-use lib.Seq.{paste, paste-suc, take-length, take-nil, take-add, take-at, drop-at, take-take, drop-drop, drop-cons, getD-drop, length-take-le, take-append-le, sets-eq}
+use lib.Seq.{paste, paste-suc, take-length, take-nil, take-add, take-at, drop-at, take-take, drop-drop, drop-cons, getD-drop}
+use lib.Seq.{length-take-le, take-append-le, sets-eq}
 use Rattle.octets.specs.Parts.{part, put, Octets}
 
 -- ---- a part

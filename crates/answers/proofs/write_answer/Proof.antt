@@ -13,7 +13,8 @@ returns c =
     let d₂ = d₃ .before .before .before .before in
     let d₁ = d₂ .before .before .before .before in
     let start = d₁ .before .before .before in (
-      record-written (start .args .a) (start .args .answer .now) _ _ _ _ _ (start .pre) (d₁ .put-little8 .ensures) (d₂ .put-little82 .ensures)
+      record-written (start .args .a) (start .args .answer .now) _ _ _ _ _ (start .pre) (d₁ .put-little8 .ensures)
+          (d₂ .put-little82 .ensures)
           (d₃ .put-little83 .ensures) (d₄ .put-little84 .ensures) (d₅ .put-little85 .ensures),
       refl,
     )
@@ -21,4 +22,5 @@ returns c =
 pub write-answer-spec : {M : Type 1} → statement M
 write-answer-spec =
     tie.close
-    (tie.spec (λ c κs. search needs) (λ c κs. search needs) (λ c κs. search needs) (λ c κs. search needs) (λ c κs. search needs) (λ c. search needs) returns)
+    (tie.spec (λ c κs. search needs) (λ c κs. search needs) (λ c κs. search needs) (λ c κs. search needs) (λ c κs. search needs)
+    (λ c. search needs) returns)

@@ -21,7 +21,8 @@ returns c =
     let table = c .before .before .before .before .before .args .table .now in
     sym
     (l .inv .1 ∙ ascending-on table (l .i) (omega arith)
-    ∙ ap (λ (t : Bool). cond t (ascending (leavesLeft table (l .i + 1))) false) (sym (c .before .is-before .ensures) ∙ not-true _ (c .if1 .taken)))
+    ∙ ap (λ (t : Bool). cond t (ascending (leavesLeft table (l .i + 1))) false)
+    (sym (c .before .is-before .ensures) ∙ not-true _ (c .if1 .taken)))
 
 loop-again : tie.Need-loop-again Inv-loop μ-loop
 loop-again c =
@@ -29,7 +30,8 @@ loop-again c =
     let table = c .before .before .before .before .before .args .table .now in (
       omega arith,
       l .inv .1 ∙ ascending-on table (l .i) (omega arith)
-          ∙ ap (λ (t : Bool). cond t (ascending (leavesLeft table (l .i + 1))) false) (sym (c .before .is-before .ensures) ∙ not-false _ (c .if1 .left)),
+          ∙ ap (λ (t : Bool). cond t (ascending (leavesLeft table (l .i + 1))) false)
+          (sym (c .before .is-before .ensures) ∙ not-false _ (c .if1 .left)),
     )
 
 returns-2 : tie.Need-returns-2 Inv-loop μ-loop
@@ -40,5 +42,6 @@ returns-2 c =
 pub ascends-spec : {M : Type 1} → statement M
 ascends-spec =
     tie.close
-    (tie.spec Inv-loop μ-loop (λ c. (omega arith, ap ascending (leaves-all (c .before .args .table .now)))) (λ c. omega arith) (λ c κs. omega arith) returns
+    (tie.spec Inv-loop μ-loop (λ c. (omega arith, ap ascending (leaves-all (c .before .args .table .now)))) (λ c. omega arith)
+    (λ c κs. omega arith) returns
     (λ c. omega arith) (λ c. omega arith) loop-again returns-2)

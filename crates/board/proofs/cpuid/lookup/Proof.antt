@@ -38,7 +38,8 @@ loop-again c =
     let a = d .before .before .before .before .args in (
       omega arith,
       l .inv .1
-          ∙ lookup-on (a .table .now) (l .i) (a .eax) (a .ecx) (a .register) (omega arith) (d .has-inputs .result) (d .has-inputs .ensures) (c .if1 .left),
+          ∙ lookup-on (a .table .now) (l .i) (a .eax) (a .ecx) (a .register) (omega arith) (d .has-inputs .result) (d .has-inputs .ensures)
+          (c .if1 .left),
     )
 
 returns-2 : tie.Need-returns-2 Inv-loop μ-loop
@@ -51,4 +52,5 @@ returns-2 c =
 pub lookup-spec : {M : Type 1} → statement M
 lookup-spec =
     tie.close
-    (tie.spec Inv-loop μ-loop loop-holds (λ c κs. omega arith) (λ c κs. omega arith) returns (λ c. omega arith) (λ c. omega arith) loop-again returns-2)
+    (tie.spec Inv-loop μ-loop loop-holds (λ c κs. omega arith) (λ c κs. omega arith) returns (λ c. omega arith)
+    (λ c. omega arith) loop-again returns-2)

@@ -14,12 +14,14 @@ returns-2 c = c .little42 .ensures ∙ sym (cond-ne _ _ _ _ (c .before .before .
 returns-3 : tie.Need-returns-3
 returns-3 c =
     c .little43 .ensures
-    ∙ sym (cond-ne _ _ _ _ (c .before .before .before .if1 .left) ∙ cond-ne _ _ _ _ (c .before .before .if2 .left) ∙ cond-eq _ _ _ _ (c .before .if3 .taken))
+    ∙ sym (cond-ne _ _ _ _ (c .before .before .before .if1 .left) ∙ cond-ne _ _ _ _ (c .before .before .if2 .left)
+    ∙ cond-eq _ _ _ _ (c .before .if3 .taken))
 
 returns-4 : tie.Need-returns-4
 returns-4 c =
     c .little44 .ensures
-    ∙ sym (cond-ne _ _ _ _ (c .before .before .before .if1 .left) ∙ cond-ne _ _ _ _ (c .before .before .if2 .left) ∙ cond-ne _ _ _ _ (c .before .if3 .left))
+    ∙ sym (cond-ne _ _ _ _ (c .before .before .before .if1 .left) ∙ cond-ne _ _ _ _ (c .before .before .if2 .left)
+    ∙ cond-ne _ _ _ _ (c .before .if3 .left))
 
 pub result-spec : {M : Type 1} → statement M
 result-spec =

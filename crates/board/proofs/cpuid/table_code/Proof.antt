@@ -21,7 +21,8 @@ returns-3 : tie.Need-returns-3
 returns-3 c =
     let table = c .before .before .before .before .before .args .table .now in
     table-refused table
-    (λ t. false≢true (sym (not-true _ (c .if3 .taken)) ∙ c .before .ascends .ensures ∙ ascends-holds (leaf table) (length table / 24) (t .order)))
+    (λ t. false≢true (sym (not-true _ (c .if3 .taken)) ∙ c .before .ascends .ensures
+    ∙ ascends-holds (leaf table) (length table / 24) (t .order)))
 
 returns-4 : tie.Need-returns-4
 returns-4 c =

@@ -16,7 +16,8 @@ abbrev μ-loop : tie.MeasureT-loop
 
 -- region i breaks a rule, as the code has its numbers
 stops : (c : tie.After-region-length Inv-loop μ-loop)
-    → (1 ≤ c .region-length .result → c .before .before .before .loop .low ≤ c .before .base .result → c .before .base .result + c .region-length .result ≤ 2 ^ 52 → ⊥)
+    → (1 ≤ c .region-length .result → c .before .before .before .loop .low ≤ c .before .base .result
+    → c .before .base .result + c .region-length .result ≤ 2 ^ 52 → ⊥)
     → false ≡ ordered 0 (regions (c .before .before .before .before .before .args .map .now))
 stops c f =
     let l = c .before .before .before .loop in
@@ -34,7 +35,8 @@ loop-again c =
     let map = d .before .before .before .before .before .args .map .now in (
       omega arith,
       l .inv .1
-          ∙ ordered-on map (l .i) (omega arith) (l .low) (d .before .base .result + d .region-length .result) (omega arith) (omega arith) (omega arith)
+          ∙ ordered-on map (l .i) (omega arith) (l .low) (d .before .base .result + d .region-length .result) (omega arith) (omega arith)
+          (omega arith)
           (omega arith),
     )
 
@@ -47,8 +49,10 @@ returns-5 c =
 pub in-order-spec : {M : Type 1} → statement M
 in-order-spec =
     tie.close
-    (tie.spec Inv-loop μ-loop (λ c. (omega arith, ap (ordered 0) (left-all (c .before .args .map .now)))) (λ c κs. omega arith) (λ c κs. omega arith)
-    (λ c. let t = c .if1 .taken in stops (c .before) (λ p q r. omega arith)) (λ c. let t = c .if2 .taken in stops (c .before .before) (λ p q r. omega arith))
+    (tie.spec Inv-loop μ-loop (λ c. (omega arith, ap (ordered 0) (left-all (c .before .args .map .now)))) (λ c κs. omega arith)
+    (λ c κs. omega arith)
+    (λ c. let t = c .if1 .taken in stops (c .before) (λ p q r. omega arith))
+    (λ c. let t = c .if2 .taken in stops (c .before .before) (λ p q r. omega arith))
     (λ c. let t = c .if3 .taken in stops (c .before .before .before) (λ p q r. omega arith))
     (λ c. let t = c .if4 .taken in stops (c .before .before .before .before) (λ p q r. omega arith)) (λ c. omega arith) (λ c. omega arith)
     (λ c. omega arith) loop-again returns-5)

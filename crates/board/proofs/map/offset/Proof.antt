@@ -22,7 +22,11 @@ loop-holds c =
 returns : tie.Need-returns Inv-loop μ-loop
 returns c =
     let start = c .before .before .before .before .before in
-    omega (arith, offset-stops (start .args .map .now) (c .before .before .before .loop .i) (omega arith) (start .pre) (start .args .a) (omega arith))
+    omega (
+      arith,
+      offset-stops (start .args .map .now) (c .before .before .before .loop .i) (omega arith) (start .pre) (start .args .a)
+          (omega arith),
+    )
 
 add-result : tie.Need-add-result Inv-loop μ-loop
 add-result c =
@@ -39,7 +43,8 @@ returns-2 c =
     let start = c .before .before .before .before .before .before .before in
     omega (
       arith,
-      offset-within (start .args .map .now) (c .before .before .before .before .before .loop .i) (omega arith) (start .pre) (start .args .a) (omega arith),
+      offset-within (start .args .map .now) (c .before .before .before .before .before .loop .i) (omega arith) (start .pre)
+          (start .args .a) (omega arith),
     )
 
 add-below : tie.Need-add-below Inv-loop μ-loop
@@ -66,5 +71,6 @@ returns-3 c =
 pub offset-spec : {M : Type 1} → statement M
 offset-spec =
     tie.close
-    (tie.spec Inv-loop μ-loop loop-holds (λ c κs. omega arith) returns (λ c κs. omega arith) (λ c. omega arith) (λ c. omega arith) add-result returns-2
+    (tie.spec Inv-loop μ-loop loop-holds (λ c κs. omega arith) returns (λ c κs. omega arith) (λ c. omega arith)
+    (λ c. omega arith) add-result returns-2
     add-below (λ c. omega arith) (λ c. omega arith) loop-again returns-3)

@@ -29,5 +29,6 @@ returns c = omega (arith, ap total (left-none (c .before .before .before .args .
 pub total-spec : {M : Type 1} → statement M
 total-spec =
     tie.close
-    (tie.spec Inv-loop μ-loop (λ c. omega (arith, ap total (left-all (c .before .args .map .now)))) (λ c κs. omega arith) add-sum (λ c. omega arith)
+    (tie.spec Inv-loop μ-loop (λ c. omega (arith, ap total (left-all (c .before .args .map .now)))) (λ c κs. omega arith) add-sum
+    (λ c. omega arith)
     (λ c. omega arith) loop-again returns)

@@ -41,10 +41,12 @@ returns-2 : tie.Need-returns-2 Inv-loop μ-loop
 unfolding uncovered
 returns-2 c =
     let l = c .before .loop in
-    sym (l .inv .1 ∙ ap (λ (rs : List Region). uncovered rs (l .first)) (left-none (c .before .before .before .args .map .now) (l .i) (omega arith)))
+    sym (l .inv .1 ∙ ap (λ (rs : List Region). uncovered rs (l .first))
+    (left-none (c .before .before .before .args .map .now) (l .i) (omega arith)))
 
 pub uncovered-spec : {M : Type 1} → statement M
 uncovered-spec =
     tie.close
-    (tie.spec Inv-loop μ-loop loop-holds (λ c κs. omega arith) returns (λ c κs. omega arith) add-later (λ c κs. search needs) (λ c. omega arith)
+    (tie.spec Inv-loop μ-loop loop-holds (λ c κs. omega arith) returns (λ c κs. omega arith) add-later (λ c κs. search needs)
+    (λ c. omega arith)
     (λ c. omega arith) loop-again returns-2)

@@ -32,7 +32,8 @@ loop-again c =
 returns : tie.Need-returns Inv-loop μ-loop
 returns c =
     let b = c .before in
-    b .loop .inv .2 ∙ paste-all (b .before .args .dst .now) (b .before .args .at) (b .before .args .src .now) (b .loop .i) (omega arith) (omega arith)
+    b .loop .inv .2 ∙ paste-all (b .before .args .dst .now) (b .before .args .at) (b .before .args .src .now) (b .loop .i) (omega arith)
+    (omega arith)
 
 pub copy-spec : {M : Type 1} → statement M
 copy-spec =
