@@ -1,7 +1,8 @@
 -- What is left to test are the records from number i on.
 use mathlib.Core.Bool.{Bool, false, cond}
+use mathlib.Core.List.{List}
 use mathlib.Core.Path.{_≡_, sym, ap, _∙_}
-use Prim.Native.Nat.{_+_, _-_, _≤_}
+use Prim.Native.Nat.{ℕ, _+_, _-_, _≤_}
 use native.Mathlib.Omega.{arith}
 use borrow.Author.Tests.{not-true, not-false}
 use Rattle.board.specs.Cpuid.{leaves, ascending}
@@ -15,10 +16,14 @@ Inv-loop table n i₀ i = (i ≤ n) × (ascending (leaves table) ≡ ascending (
 abbrev μ-loop : tie.MeasureT-loop
 μ-loop table n i₀ i = n - i
 
+-- the table, from the comparison of two records on
+abbrev given : tie.After-is-before Inv-loop μ-loop → List ℕ
+given k = k .before .before .before .before .args .table .now
+
 returns : tie.Need-returns Inv-loop μ-loop
 returns c =
     let l = c .before .before .before .loop in
-    let table = c .before .before .before .before .before .args .table .now in
+    let table = given (c .before) in
     sym
     (l .inv .1 ∙ ascending-on table (l .i) (omega arith)
     ∙ ap (λ (t : Bool). cond t (ascending (leavesLeft table (l .i + 1))) false)
@@ -27,7 +32,7 @@ returns c =
 loop-again : tie.Need-loop-again Inv-loop μ-loop
 loop-again c =
     let l = c .before .before .before .loop in
-    let table = c .before .before .before .before .before .args .table .now in (
+    let table = given (c .before) in (
       omega arith,
       l .inv .1 ∙ ascending-on table (l .i) (omega arith)
           ∙ ap (λ (t : Bool). cond t (ascending (leavesLeft table (l .i + 1))) false)

@@ -1,7 +1,8 @@
 -- Each refusal contradicts one rule of a taken table.
 use mathlib.Core.Bool.{false≢true}
+use mathlib.Core.List.{List}
 use mathlib.Core.Path.{sym, _∙_}
-use Prim.Native.Nat.{_/_}
+use Prim.Native.Nat.{ℕ, _/_}
 use native.Mathlib.Omega.{arith}
 use lib.ListN.{length}
 use borrow.Author.Needs.{needs}
@@ -11,6 +12,10 @@ use Rattle.board.proofs.TableLaws.{table-refused, table-holds, ascends-
 use Rattle.board.proofs.cpuid.table_code.Statement.{statement}
 use Rattle.board.proofs.cpuid.table_code.Tie as tie
 
+-- the table, from the test of the order on
+abbrev given : tie.After-ascends → List ℕ
+given k = k .before .before .before .before .args .table .now
+
 returns : tie.Need-returns
 returns c = table-refused (c .before .before .args .table .now) (λ t. c .if1 .taken (t .records))
 
@@ -19,14 +24,14 @@ returns-2 c = table-refused (c .before .before .before .args .table .now) (λ t.
 
 returns-3 : tie.Need-returns-3
 returns-3 c =
-    let table = c .before .before .before .before .before .args .table .now in
+    let table = given (c .before) in
     table-refused table
     (λ t. false≢true (sym (not-true _ (c .if3 .taken)) ∙ c .before .ascends .ensures
     ∙ ascends-holds (leaf table) (length table / 24) (t .order)))
 
 returns-4 : tie.Need-returns-4
 returns-4 c =
-    let table = c .before .before .before .before .before .args .table .now in
+    let table = given (c .before) in
     sym
     (table-holds table
     (record {

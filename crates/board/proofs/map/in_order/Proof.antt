@@ -1,7 +1,8 @@
 -- What is left to test is the order of the regions from number i on, above the end of those before.
 use mathlib.Core.Bool.{false}
+use mathlib.Core.List.{List}
 use mathlib.Core.Path.{_≡_, sym, ap, _∙_}
-use Prim.Native.Nat.{_+_, _-_, _^_, _≤_}
+use Prim.Native.Nat.{ℕ, _+_, _-_, _^_, _≤_}
 use native.Mathlib.Omega.{arith}
 use Rattle.board.specs.Map.{regions, ordered}
 use Rattle.board.proofs.WalkLaws.{left, left-all, left-none, ordered-on, ordered-stops}
@@ -14,25 +15,29 @@ Inv-loop map n low₀ i₀ low i = (i ≤ n) × (ordered 0 (regions map) ≡ ord
 abbrev μ-loop : tie.MeasureT-loop
 μ-loop map n low₀ i₀ low i = n - i
 
+-- the map, from the reading of a region on
+abbrev given : tie.After-region-length Inv-loop μ-loop → List ℕ
+given k = let walk = k .before .before .before in walk .before .before .args .map .now
+
 -- region i breaks a rule, as the code has its numbers
 stops : (c : tie.After-region-length Inv-loop μ-loop)
     → (1 ≤ c .region-length .result → c .before .before .before .loop .low ≤ c .before .base .result
     → c .before .base .result + c .region-length .result ≤ 2 ^ 52 → ⊥)
-    → false ≡ ordered 0 (regions (c .before .before .before .before .before .args .map .now))
+    → false ≡ ordered 0 (regions (given c))
 stops c f =
     let l = c .before .before .before .loop in
     let b = c .before .base .ensures in
     let s = c .region-length .ensures in
     sym
     (l .inv .1
-    ∙ ordered-stops (c .before .before .before .before .before .args .map .now) (l .i) (c .before .before .loop-test .taken) (l .low)
+    ∙ ordered-stops (given c) (l .i) (c .before .before .loop-test .taken) (l .low)
     (λ p q r. f (omega arith) (omega arith) (omega arith)))
 
 loop-again : tie.Need-loop-again Inv-loop μ-loop
 loop-again c =
     let d = c .before .before .before .before in
     let l = d .before .before .before .loop in
-    let map = d .before .before .before .before .before .args .map .now in (
+    let map = given d in (
       omega arith,
       l .inv .1
           ∙ ordered-on map (l .i) (omega arith) (l .low) (d .before .base .result + d .region-length .result) (omega arith) (omega arith)

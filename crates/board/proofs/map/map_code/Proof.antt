@@ -9,6 +9,10 @@ use Rattle.board.proofs.MapLaws.{map-refused, map-holds, ordered-holds,
 use Rattle.board.proofs.map.map_code.Statement.{statement}
 use Rattle.board.proofs.map.map_code.Tie as tie
 
+-- what the code was given, from the walk over the regions on
+abbrev given : tie.After-in-order → tie.Start
+given k = let counted = k .before .before in counted .before .before .before
+
 returns : tie.Need-returns
 returns c =
     let a = c .before .before .args in
@@ -26,7 +30,7 @@ returns-3 c =
 
 returns-4 : tie.Need-returns-4
 returns-4 c =
-    let a = c .before .before .before .before .before .before .args in
+    let a = given (c .before) .args in
     map-refused (a .map .now) (a .memory)
     (λ t. false≢true (sym (not-true _ (c .if4 .taken)) ∙ c .before .in-order .ensures ∙ ordered-holds 0 (regions (a .map .now)) (t .order)))
 
@@ -35,17 +39,17 @@ total-requires c κs = sym (c .before .in-order .ensures) ∙ not-false _ (c .if
 
 returns-5 : tie.Need-returns-5
 returns-5 c =
-    let a = c .before .before .before .before .before .before .before .before .args in
+    let a = given (c .before .before .before) .args in
     map-refused (a .map .now) (a .memory) (λ t. omega arith)
 
 returns-6 : tie.Need-returns-6
 returns-6 c =
-    let a = c .before .before .before .before .before .before .before .before .before .args in
+    let a = given (c .before .before .before .before) .args in
     map-refused (a .map .now) (a .memory) (λ t. c .if6 .taken (omega arith))
 
 returns-7 : tie.Need-returns-7
 returns-7 c =
-    let a = c .before .before .before .before .before .before .before .before .before .args in
+    let a = given (c .before .before .before .before) .args in
     let d = c .before .before .before in
     sym
     (map-holds (a .map .now) (a .memory)

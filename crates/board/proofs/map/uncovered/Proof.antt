@@ -15,6 +15,11 @@ Inv-loop map a n first₀ i₀ first i = (i ≤ n) × (uncovered (regions map) a
 abbrev μ-loop : tie.MeasureT-loop
 μ-loop map a n first₀ i₀ first i = n - i
 
+-- from the reading of a region's base on: what the code was given, and the loop
+module _ (k : tie.After-base Inv-loop μ-loop) where
+  abbrev given : tie.Start Inv-loop μ-loop
+  given = k .before .before .before .before
+
 loop-holds : tie.Need-loop-holds Inv-loop μ-loop
 loop-holds c =
     let a = c .before .args in
@@ -23,18 +28,19 @@ loop-holds c =
 returns : tie.Need-returns Inv-loop μ-loop
 returns c =
     let l = c .before .before .before .loop in
-    let start = c .before .before .before .before .before in
+    let start = given (c .before) in
     sym (l .inv .1 ∙ uncovered-stops (start .args .map .now) (l .i) (omega arith) (start .pre) (l .first) (omega arith))
 
 add-later : tie.Need-add-later Inv-loop μ-loop
 add-later c =
-    let start = c .before .before .before .before .before .before in
+    let start = given (c .before .before) in
     omega (arith, end-small (start .args .map .now) (c .before .before .before .before .loop .i) (omega arith) (start .pre))
 
 loop-again : tie.Need-loop-again Inv-loop μ-loop
 loop-again c =
-    let l = c .before .before .before .before .before .loop in
-    let map = c .before .before .before .before .before .before .before .args .map .now in
+    let b = c .before .before .before in
+    let l = b .before .before .loop in
+    let map = given b .args .map .now in
     (omega arith, l .inv .1 ∙ uncovered-on map (l .i) (omega arith) (l .first) (c .later .result) (omega arith) (omega arith))
 
 returns-2 : tie.Need-returns-2 Inv-loop μ-loop
