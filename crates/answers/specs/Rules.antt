@@ -1,4 +1,4 @@
--- The table of numbered answers, read as rules in an order: the first that is broken gives its number.
+-- The table of numbered answers, read as rules in an order: the first that is broken gives its number (N0 to N29, O1).
 use mathlib.Core.Bool.{Bool, true, false, cond}
 use mathlib.Core.List.{List, [], _∷_}
 use Prim.Native.Nat.{ℕ, _^_}
@@ -17,10 +17,10 @@ abbrev pub firstBroken : List Rule → ℕ
 firstBroken [] = 0
 firstBroken (r ∷ rs) = cond (r .broken) (r .code) (firstBroken rs)
 
--- 1: expected signature length not in 1..4096
+-- N1, J13: signature length not in 1..4096
 abbrev pub signatureRules : ℕ → List Rule
 signatureRules signature = rule 1 (eqb signature 0) ∷ rule 1 (ltb 4096 signature) ∷ []
 
--- 1: image or command file over 2^30 bytes
+-- N1, J14: image or command file over 2^30 bytes
 abbrev pub sizeRules : ℕ → List Rule
 sizeRules bytes = rule 1 (ltb (2 ^ 30) bytes) ∷ []

@@ -23,7 +23,7 @@ pub record Leaf : Type 0 where
 abbrev pub leafBytes : ℕ
 leafBytes = 24
 
--- record i of the table: six 32-bit little-endian words
+-- C1: record i of the table: six 32-bit little-endian words
 abbrev pub leaf : List ℕ → ℕ → Leaf
 leaf table i =
     record {
@@ -38,7 +38,7 @@ leaf table i =
 abbrev pub leaves : List ℕ → List Leaf
 leaves table = records (leaf table) 0 (length table / leafBytes)
 
--- p comes before q: by EAX input and then ECX input
+-- C3: p comes before q: by EAX input and then ECX input
 abbrev pub before : Leaf → Leaf → Bool
 before p q =
     cond (eqb (p .eaxInput) (q .eaxInput)) (ltb (p .ecxInput) (q .ecxInput)) (ltb (p .eaxInput) (q .eaxInput))
@@ -49,7 +49,7 @@ ascending [] = true
 ascending (p ∷ []) = true
 ascending (p ∷ (q ∷ rest)) = cond (before p q) (ascending (q ∷ rest)) false
 
--- 3: the table isn't whole records, has more than 64, or they do not ascend
+-- N3: the table isn't whole records (C1), has more than 64 (C2), or they do not ascend (C3)
 abbrev pub tableRules : List ℕ → List Rule
 tableRules table =
     rule 3 (not (eqb (length table % leafBytes) 0))
@@ -57,11 +57,11 @@ tableRules table =
     ∷ rule 3 (not (ascending (leaves table)))
     ∷ []
 
--- the result register by its number: 0 EAX, 1 EBX, 2 ECX, 3 EDX
+-- C6: the result register by its number: 0 EAX, 1 EBX, 2 ECX, 3 EDX
 abbrev pub register : ℕ → Leaf → ℕ
 register n l = cond (eqb n 0) (l .eax) (cond (eqb n 1) (l .ebx) (cond (eqb n 2) (l .ecx) (l .edx)))
 
--- a lookup needs both inputs equal; what the wanted register holds there
+-- C5: a lookup needs both inputs equal; what the wanted register holds there
 unfoldable pub lookup : List Leaf → ℕ → ℕ → ℕ → Found
 lookup [] eax ecx n = Nothing
 lookup (l ∷ ls) eax ecx n =
