@@ -24,43 +24,53 @@ extern "C" {
  */
 enum {
     RUNNELPIN_DONE = 0,
-    RUNNELPIN_ARGUMENT = 1,          /* record not 40 bytes; mode; signature length not 1..4096; over 2^30 bytes */
+    RUNNELPIN_ARGUMENT = 1,          /* record length; mode; signature length not 1..4096; over 2^30 bytes */
     RUNNELPIN_MAP = 2,               /* the map breaks a rule, or memory is not as long as its regions */
     RUNNELPIN_TABLE = 3,             /* the CPUID table breaks a rule, or ends within a record */
     RUNNELPIN_APPROVED = 4,          /* approved header under 36 bytes, or the image begins otherwise */
     RUNNELPIN_HEADER_MAGIC = 5,
-    RUNNELPIN_HASH_ID = 6,           /* a hash ID that is not supported, or none at the first position */
-    RUNNELPIN_HASHSUM_LENGTH = 7,    /* not that of the hash IDs */
+    RUNNELPIN_HASH_ID = 6,           /* one is not supported, or the first is 0 */
+    RUNNELPIN_HASHSUM_LENGTH = 7,    /* not that of all hashes together */
     RUNNELPIN_HEADER_SIZE = 8,       /* not 36 + hashsum length, or not the approved header's length */
     RUNNELPIN_SCHEME = 9,            /* signature scheme not 1 */
     RUNNELPIN_SIGNATURE_LENGTH = 10, /* not the expected one */
-    RUNNELPIN_BLOCKS = 11,           /* block count, block size or padding */
-    RUNNELPIN_IMAGE_LENGTH = 12,     /* not header, signature field and blocks together */
-    RUNNELPIN_BLOCK_HASHSUM = 13,    /* place: the block, from 1 */
-    RUNNELPIN_BLOCK_PADDING = 14,    /* place: the block, from 1 */
-    RUNNELPIN_LAST_HASH = 15,        /* place: the block, from 1 */
+    RUNNELPIN_BLOCKS = 11,           /* block count, block size or padding out of range */
+    RUNNELPIN_IMAGE_LENGTH = 12,     /* not that of header, signature field and blocks together */
+    /* A block; place: its number, from 1. */
+    RUNNELPIN_BLOCK_HASHSUM = 13,    /* it does not match */
+    RUNNELPIN_BLOCK_PADDING = 14,    /* it is not all zeros */
+    RUNNELPIN_LAST_HASH = 15,        /* the last block's hash field is not all zeros */
     RUNNELPIN_FILE_MAGIC = 16,       /* the command file is under 8 bytes, or begins with another magic */
-    RUNNELPIN_COMMAND_CUT = 17,      /* place from here to 26: file offset of the command's first byte */
-    RUNNELPIN_COMMAND_ID = 18,
-    RUNNELPIN_COMMAND_LENGTH = 19,
-    RUNNELPIN_NOT_REACHABLE = 20,
-    RUNNELPIN_NOT_RAM = 21,
+    /* A command; place: the file offset of its first byte. */
+    RUNNELPIN_COMMAND_CUT = 17,      /* it runs past the end of the file */
+    RUNNELPIN_COMMAND_ID = 18,       /* it is unknown */
+    RUNNELPIN_COMMAND_LENGTH = 19,   /* its data length is wrong */
+    RUNNELPIN_NOT_REACHABLE = 20,    /* an address is beyond the reach of the mode */
+    RUNNELPIN_NOT_RAM = 21,          /* an address is in no region of the map */
     RUNNELPIN_TEXT = 22,             /* a check's text has no zero byte */
-    RUNNELPIN_CPUID_MISSING = 23,    /* a check, and the table is empty */
+    RUNNELPIN_CPUID_MISSING = 23,    /* a check, but the table is empty */
     RUNNELPIN_REGISTER = 24,         /* a check's result register is over 3 */
-    RUNNELPIN_NO_RECORD = 25,        /* the table has no record with the check's inputs */
-    RUNNELPIN_CHECK_FAILED = 26,
-    RUNNELPIN_NO_ENTRY = 27,         /* place: the file's length */
-    RUNNELPIN_EMPTY_FILE = 28,       /* pack */
-    RUNNELPIN_OUTPUT_LENGTH = 29     /* open, pack: not the exact length */
+    RUNNELPIN_NO_RECORD = 25,        /* the table has no record with a check's inputs */
+    RUNNELPIN_CHECK_FAILED = 26,     /* a check found another value */
+    RUNNELPIN_NO_ENTRY = 27,         /* the file has no entry command; place: the file's length */
+    RUNNELPIN_EMPTY_FILE = 28,       /* pack: nothing to pack */
+    RUNNELPIN_OUTPUT_LENGTH = 29     /* open, pack: not exactly the length of the result */
 };
 
 /*
- * The answer record that open, run and load fill: five 64-bit little-endian numbers, code, place,
- * commands done, bytes stored, entry. The entry is 0 unless the code is RUNNELPIN_DONE. A record of
+ * The answer record that open, run and load fill: these 64-bit little-endian numbers, one behind the other.
+ * The struct has the same layout, so that one can be lent: (uint8_t *)&answer, sizeof answer. A record of
  * another length gives RUNNELPIN_ARGUMENT, and then nothing is written anywhere.
  */
 #define RUNNELPIN_ANSWER_BYTES 40
+
+struct runnelpin_answer {
+    uint64_t code;
+    uint64_t place;
+    uint64_t commands; /* done */
+    uint64_t stored;   /* bytes */
+    uint64_t entry;    /* 0 unless the code is RUNNELPIN_DONE */
+};
 
 /*
  * Where the addresses are: the map is 1 to 16 records of 16 bytes, base and length, little-endian,

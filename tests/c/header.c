@@ -39,7 +39,8 @@ static const int codes[] = {
     RUNNELPIN_EMPTY_FILE,     RUNNELPIN_OUTPUT_LENGTH
 };
 
-static uint8_t image[IMAGE + 1], header[HEADER + 1], memory[MEMORY], output[FILE_BYTES], answer[RUNNELPIN_ANSWER_BYTES];
+static uint8_t image[IMAGE + 1], header[HEADER + 1], memory[MEMORY], output[FILE_BYTES];
+static struct runnelpin_answer room[2], *const answer = room; /* the second is never written to */
 
 static uint64_t number(const uint8_t *bytes, size_t width)
 {
@@ -52,9 +53,21 @@ static uint64_t number(const uint8_t *bytes, size_t width)
 static void expect_answer(const char *what, uint64_t code, uint64_t place, uint64_t commands, uint64_t stored,
                           uint64_t entry)
 {
-    const uint64_t wanted[5] = { code, place, commands, stored, entry };
-    for (size_t i = 0; i < 5; i++)
-        expect(what, number(answer + 8 * i, 8), wanted[i]);
+    const uint64_t wanted[] = { code, place, commands, stored, entry };
+    const uint64_t found[] = { answer->code, answer->place, answer->commands, answer->stored, answer->entry };
+    for (size_t i = 0; i < sizeof wanted / sizeof *wanted; i++) {
+        expect(what, found[i], wanted[i]);
+        expect(what, number((const uint8_t *)answer + 8 * i, 8), wanted[i]);
+    }
+}
+
+/* The call has not written to the record. */
+static void expect_no_answer(const char *what)
+{
+    size_t untouched = 0;
+    while (untouched < sizeof room && ((const uint8_t *)room)[untouched] == 0xee)
+        untouched++;
+    expect(what, untouched, sizeof room);
 }
 
 /* What is lent to a call: each test changes one part of what is sound. */
@@ -68,30 +81,30 @@ struct lent {
 static struct lent sound(void)
 {
     struct lent l = { image,  header, sample_file, map, cpuid, IMAGE, HEADER, FILE_BYTES, sizeof map, sizeof cpuid,
-                      64,     SIGNATURE, { 2, 0, 3, 4 }, BLOCK, MEMORY, FILE_BYTES, IMAGE, sizeof answer };
+                      64,     SIGNATURE, { 2, 0, 3, 4 }, BLOCK, MEMORY, FILE_BYTES, IMAGE, sizeof *answer };
     memset(memory, 0xee, sizeof memory);
     memset(output, 0xee, sizeof output);
-    memset(answer, 0xee, sizeof answer);
+    memset(room, 0xee, sizeof room);
     return l;
 }
 
 static uint64_t load(struct lent l)
 {
     return runnelpin_load(l.image, l.image_length, l.header, l.header_length, l.map, l.map_length, l.cpuid,
-                          l.cpuid_length, l.mode, l.signature_length, memory, l.memory_length, answer,
-                          l.answer_length);
+                          l.cpuid_length, l.mode, l.signature_length, memory, l.memory_length,
+                          (uint8_t *)answer, l.answer_length);
 }
 
 static uint64_t run(struct lent l)
 {
     return runnelpin_run(l.file, l.file_length, l.map, l.map_length, l.cpuid, l.cpuid_length, l.mode, memory,
-                         l.memory_length, answer, l.answer_length);
+                         l.memory_length, (uint8_t *)answer, l.answer_length);
 }
 
 static uint64_t open_image(struct lent l)
 {
     return runnelpin_open(l.image, l.image_length, l.header, l.header_length, l.signature_length, output,
-                          l.output_length, answer, l.answer_length);
+                          l.output_length, (uint8_t *)answer, l.answer_length);
 }
 
 static uint64_t pack(struct lent l)
@@ -152,6 +165,15 @@ static void test_signature(void)
     expect("signature: expected length", WITH(signature_start, signature_length, SIGNATURE + 1), 0);
 }
 
+/* A record of another length. */
+static void test_record(const char *what, uint64_t (*call)(struct lent))
+{
+    expect(what, WITH(call, answer_length, sizeof *answer - 1), RUNNELPIN_ARGUMENT);
+    expect_no_answer(what);
+    expect(what, WITH(call, answer_length, sizeof *answer + 1), RUNNELPIN_ARGUMENT);
+    expect_no_answer(what);
+}
+
 /* The parameters that open and load share. */
 static void test_image(const char *what, uint64_t (*call)(struct lent))
 {
@@ -172,8 +194,7 @@ static void test_open(void)
     test_image("open", open_image);
     expect("open: output length", WITH(open_image, output_length, FILE_BYTES - 1), RUNNELPIN_OUTPUT_LENGTH);
     expect_answer("open: refusal", RUNNELPIN_OUTPUT_LENGTH, 0, 0, 0, 0);
-    expect("open: answer length", WITH(open_image, answer_length, 39), RUNNELPIN_ARGUMENT);
-    expect("open: nothing written", number(answer, 8), UINT64_C(0xeeeeeeeeeeeeeeee));
+    test_record("open: answer length", open_image);
 }
 
 /* The parameters that load and run share. */
@@ -192,8 +213,7 @@ static void test_board(const char *what, uint64_t (*call)(struct lent))
     expect(what, WITH(call, mode, 33), RUNNELPIN_ARGUMENT);
     expect(what, WITH(call, mode, WIDE + 64), RUNNELPIN_ARGUMENT);
     expect(what, WITH(call, memory_length, MEMORY - 1), RUNNELPIN_MAP);
-    expect(what, WITH(call, answer_length, 39), RUNNELPIN_ARGUMENT);
-    expect(what, number(answer, 8), UINT64_C(0xeeeeeeeeeeeeeeee));
+    test_record(what, call);
 
     changed = sound();
     changed.cpuid = NULL;
@@ -222,8 +242,9 @@ static void test_load(void)
 
 int main(void)
 {
-    for (int i = 0; i < 30; i++)
-        expect("a code's name", (uint64_t)codes[i], (uint64_t)i);
+    for (size_t i = 0; i < sizeof codes / sizeof *codes; i++)
+        expect("a code's name", (uint64_t)codes[i], i);
+    expect("the record's length", sizeof *answer, RUNNELPIN_ANSWER_BYTES);
     test_pack();
     test_signature();
     test_open();
