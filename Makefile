@@ -20,9 +20,8 @@ build/librunnelpin.a: crates.txt $(shell find crates)
 
 tool: build/runnelpin ## build/runnelpin, the command-line tool; 'man ./docs/runnelpin.1' tells of it
 
-TOOL = $(CC) -std=c99 -Wall -Wextra -Werror -Iinclude -Istub tool/*.c $(SHARED) build/librunnelpin.a -o $@
-SHARED = stub/cpuid.c stub/words.c
-TOOL_PARTS = build/librunnelpin.a include/runnelpin.h $(wildcard tool/*.[ch]) $(SHARED) $(SHARED:.c=.h)
+TOOL = $(CC) -std=c99 -Wall -Wextra -Werror -Iinclude -Icommon tool/*.c common/*.c build/librunnelpin.a -o $@
+TOOL_PARTS = build/librunnelpin.a include/runnelpin.h $(wildcard tool/*.[ch] common/*.[ch])
 
 build/runnelpin: $(TOOL_PARTS)
 	@$(TOOL) -O2

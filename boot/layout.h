@@ -2,6 +2,8 @@
 #ifndef LAYOUT_H
 #define LAYOUT_H
 
+#include "map.h"
+
 #define PAGE 0x1000
 
 /* Physical memory stands at its own addresses up to here, in pages of 2 MiB: 16 directories. */
@@ -14,9 +16,9 @@
 
 /* The most that is lent: whole page tables, of 2 MiB each, and no more than the loader takes. */
 #ifndef LENDING_LIMIT
-#define LENDING_LIMIT 0x100000000
+#define LENDING_LIMIT MOST_MEMORY
 #endif
-#if LENDING_LIMIT % LARGE_PAGE || LENDING_LIMIT < LARGE_PAGE || LENDING_LIMIT > 0x100000000
+#if LENDING_LIMIT % LARGE_PAGE || LENDING_LIMIT < LARGE_PAGE || LENDING_LIMIT > MOST_MEMORY
 #error "LENDING_LIMIT: a multiple of 2 MiB, and at most 4 GiB"
 #endif
 

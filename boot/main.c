@@ -1,11 +1,12 @@
 /* The stub as a whole: what was handed over, what is lent, the load, and on 0 only the hand-off. */
 #include "approved.h"
 #include "boot.h"
+#include "codes.h"
 #include "depth.h"
+#include "fields.h"
 #include "handed.h"
 #include "layout.h"
 #include "report.h"
-#include "runnelpin.h"
 #include "serial.h"
 #include "status.h"
 #include "stub.h"
@@ -66,23 +67,18 @@ static void find_memory(void)
     say_memory(&regions, handed.image);
 }
 
-/* The length that the chip approved with the rest of the header; one too short to tell it is refused with any. */
-static uint64_t signature_length(struct slice header)
-{
-    return header.length < 16 ? 1 : boot_number(header.at + 12, 4);
-}
-
 static struct slice map(void)
 {
     return (struct slice){ (const uint8_t *)regions.map, regions.count * sizeof *regions.map };
 }
 
-static struct answer load(struct slice header)
+static struct runnelpin_answer load(struct slice header)
 {
-    struct unit unit = { map(), boot_cpuid(&table), MODE, signature_length(header), open_window(&regions),
-                         regions.length };
+    /* The signature length is the one that the chip approved with the rest of the header. */
+    struct unit unit = { map(), boot_cpuid(&table), MODE, stated_signature_length(header.at, header.length),
+                         open_window(&regions), regions.length };
     uint8_t *pointer = stack_pointer();
-    struct answer answer;
+    struct runnelpin_answer answer;
 
     say_cpuid(&table);
     paint_stack(pointer);
@@ -97,13 +93,15 @@ static struct answer load(struct slice header)
 void boot(uint32_t magic, uint64_t info)
 {
     struct slice header;
-    struct answer answer;
+    struct runnelpin_answer answer;
+    const struct code *code;
 
     open_serial();
     header = take(magic, info);
     find_memory();
     answer = load(header);
-    if (answer.code > RUNNELPIN_NO_ENTRY)
+    code = code_of(answer.code);
+    if (!code || !(code->calls & BY_LOAD))
         refuse(END_CODE, "the loader has no such answer");
     if (answer.code != RUNNELPIN_DONE)
         end((uint8_t)answer.code);

@@ -2,9 +2,6 @@
 
 #include "layout.h"
 
-/* Ends of regions are at most this, so that no address here wraps. */
-#define MOST_ADDRESS (UINT64_C(1) << 52)
-
 static uint64_t least(uint64_t a, uint64_t b)
 {
     return a < b ? a : b;
@@ -27,8 +24,9 @@ void add_range(struct ranges *ranges, uint64_t base, uint64_t length, int usable
         ranges->overflowed = 1;
         return;
     }
-    base = least(base, MOST_ADDRESS);
-    length = least(length, MOST_ADDRESS - base);
+    /* No region may end above this, and no address wraps. */
+    base = least(base, MOST_END);
+    length = least(length, MOST_END - base);
     /* Whole pages: of RAM those that it fills, of anything else those that it touches. */
     range->base = usable ? page_up(base) : page_down(base);
     range->end = usable ? page_down(base + length) : page_up(base + length);
@@ -40,7 +38,7 @@ void add_range(struct ranges *ranges, uint64_t base, uint64_t length, int usable
 /* The usable range that is met first from an address on, cut to what lies from there on; empty where there is none. */
 static struct range next_usable(const struct ranges *ranges, uint64_t from)
 {
-    struct range next = { MOST_ADDRESS, MOST_ADDRESS, 0 };
+    struct range next = { MOST_END, MOST_END, 0 };
     for (size_t i = 0; i < ranges->count; i++) {
         struct range range = ranges->at[i];
         if (!range.usable || range.end <= from)
@@ -125,7 +123,7 @@ void find_regions(const struct ranges *ranges, struct regions *regions)
     uint64_t from = 0;
 
     *regions = (struct regions){ .count = 0 };
-    while (from < MOST_ADDRESS) {
+    while (from < MOST_END) {
         struct range next = next_usable(ranges, from);
         from = behind(ranges, next.base);
         if (from != next.base)

@@ -2,10 +2,12 @@
 #ifndef RANGES_H
 #define RANGES_H
 
+#include "map.h"
+
 #include <stddef.h>
 #include <stdint.h>
 
-enum { MOST_RANGES = 128, MOST_REGIONS = 16 };
+enum { MOST_RANGES = 128 };
 
 /* What the loader names, and what must not be lent: in any order, and they may overlap. */
 struct range {

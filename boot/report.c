@@ -1,10 +1,9 @@
 #include "report.h"
 
+#include "codes.h"
 #include "layout.h"
-#include "runnelpin.h"
 #include "serial.h"
 #include "stub.h"
-#include "words.h"
 
 static uint64_t address(const void *byte)
 {
@@ -70,26 +69,25 @@ void say_cpuid(const struct cpuid_table *table)
     say("\n");
 }
 
-/* The place is a block, or an offset of the file, or nothing. */
-static void say_place(struct answer answer)
+void say_answer(struct runnelpin_answer answer)
 {
-    if (answer.code < RUNNELPIN_BLOCK_HASHSUM)
-        return;
-    say(answer.code <= RUNNELPIN_LAST_HASH ? "; block " : "; file offset ");
-    say_number(answer.place);
-}
+    static const char *const places[] = {
+        [BLOCK_NUMBER] = "; block ", [FILE_OFFSET] = "; file offset ", [FILE_LENGTH] = "; file offset "
+    };
+    const struct code *code = code_of(answer.code);
 
-void say_answer(struct answer answer)
-{
     say(answer.code == RUNNELPIN_DONE ? "loaded: " : "refused: ");
     say_number(answer.code);
-    if (answer.code < CODES) {
+    if (code) {
         say(", ");
-        say(code_words[answer.code].name);
+        say(code->name);
         say(": ");
-        say(code_words[answer.code].meaning);
+        say(code->meaning);
     }
-    say_place(answer);
+    if (code && code->place_kind != NO_PLACE) {
+        say(places[code->place_kind]);
+        say_number(answer.place);
+    }
     say("; commands done ");
     say_number(answer.commands);
     say(", bytes stored ");

@@ -10,6 +10,6 @@ void say_memory(const struct regions *regions, struct slice image);
 void say_cpuid(const struct cpuid_table *table);
 
 /* The answer record in words. */
-void say_answer(struct answer answer);
+void say_answer(struct runnelpin_answer answer);
 
 #endif

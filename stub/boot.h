@@ -6,6 +6,7 @@
 #include <stdint.h>
 
 #include "cpuid.h"
+#include "runnelpin.h"
 
 struct slice {
     const uint8_t *at;
@@ -22,18 +23,11 @@ struct unit {
     size_t memory_length;
 };
 
-struct answer {
-    uint64_t code, place, commands, stored, entry;
-};
-
 /* Loads an image under the header that the security chip has approved. */
-struct answer boot_load(const struct unit *unit, struct slice image, struct slice header);
+struct runnelpin_answer boot_load(const struct unit *unit, struct slice image, struct slice header);
 
 /* The CPUID table, read from the processor. */
 struct slice boot_cpuid(struct cpuid_table *table);
-
-/* The number that at most eight little-endian bytes spell. */
-uint64_t boot_number(const uint8_t *bytes, size_t length);
 
 /* Whether a region of the map has this address: an entry need not have one, but nothing was loaded elsewhere. */
 int boot_is_ram(struct slice map, uint64_t address);

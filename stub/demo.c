@@ -4,7 +4,7 @@
  * moving pages once they are loaded.
  */
 #include "boot.h"
-#include "runnelpin.h"
+#include "fields.h"
 #include "unit.h"
 
 enum { LINUX_MPROTECT = 10, LINUX_MREMAP = 25, LINUX_EXIT = 60 };
@@ -39,7 +39,7 @@ static void place_regions(void)
         end(STATUS_PLACING);
 }
 
-static struct answer load_damaged(const struct unit *unit, struct slice image, struct slice header)
+static struct runnelpin_answer load_damaged(const struct unit *unit, struct slice image, struct slice header)
 {
     struct slice copy = { damaged, image.length };
     if (image.length > sizeof damaged)
@@ -51,9 +51,9 @@ static struct answer load_damaged(const struct unit *unit, struct slice image, s
 }
 
 /* The changed byte is in the last block: what stood before it is stored, and no entry is handed out. */
-static int is_refused(struct answer answer, struct slice header)
+static int is_refused(struct runnelpin_answer answer, struct slice header)
 {
-    uint64_t blocks = boot_number(header.at + 4, 4);
+    uint64_t blocks = field(header.at, FIELD_BLOCK_COUNT);
     return answer.code == RUNNELPIN_BLOCK_HASHSUM && answer.place == blocks && answer.stored != 0 && answer.entry == 0;
 }
 
@@ -64,8 +64,8 @@ void demo(void)
     struct unit unit = { { (const uint8_t *)regions, sizeof regions }, boot_cpuid(&table), 64, SIGNATURE_LENGTH,
                          memory, sizeof memory };
 
-    struct answer refusal = load_damaged(&unit, image, header);
-    struct answer answer = boot_load(&unit, image, header);
+    struct runnelpin_answer refusal = load_damaged(&unit, image, header);
+    struct runnelpin_answer answer = boot_load(&unit, image, header);
     if (answer.code != RUNNELPIN_DONE)
         end(answer.code);
     if (!is_refused(refusal, header))

@@ -19,12 +19,12 @@
 
 #define SIGNATURE_LENGTH 512
 
-/* How the program ends: 1 to 29 is the code of a refusal. */
-#define STATUS_ENTERED 100   /* the damaged image was refused; the sound one was entered, and found all in order */
+/* How the program ends: a status below 100 is the code of a refusal. */
+#define STATUS_ENTERED 100   /* the damaged image was refused; the sound one was entered and found all in order */
 #define STATUS_REGISTERS 101 /* entered, with a register that was not zero */
-#define STATUS_MEMORY 102    /* entered, and its bytes do not stand at their addresses */
-#define STATUS_DAMAGED 103   /* the damaged image got another answer than its own */
-#define STATUS_PLACING 104   /* the regions could not be brought to their addresses */
-#define STATUS_ENTRY 105     /* loaded, and the entry is no RAM: the library allows it, this stub does not */
+#define STATUS_MEMORY 102    /* entered, but its bytes are not at their addresses */
+#define STATUS_DAMAGED 103   /* the damaged image got another answer than it should */
+#define STATUS_PLACING 104   /* the regions could not be moved to their addresses */
+#define STATUS_ENTRY 105     /* loaded, but the entry is not RAM: the library allows that, this stub does not */
 
 #endif

@@ -1,18 +1,10 @@
 #include "answer.h"
 
+#include "codes.h"
 #include "command.h"
 #include "image.h"
-#include "runnelpin.h"
-#include "words.h"
 
 #include <inttypes.h>
-
-struct answer read_answer(const uint8_t *record)
-{
-    struct answer a = {little(record, 8), little(record + 8, 8), little(record + 16, 8), little(record + 24, 8),
-                       little(record + 32, 8)};
-    return a;
-}
 
 struct call new_call(void)
 {
@@ -56,22 +48,31 @@ static void say_difference(struct text *text, const struct call *c)
         say(text, same < c->image.length ? ", they differ at byte %zu" : ", it ends at byte %zu", same);
 }
 
-/* The header fields that a code judges, as bits. */
+/* What a code says of the header: the fields that it judges, as bits. */
 static unsigned judged_fields(uint64_t code)
 {
 #define BIT(name) (1u << FIELD_##name)
-    static const unsigned fields[] = {
-        [RUNNELPIN_HEADER_MAGIC] = BIT(MAGIC),
-        [RUNNELPIN_HASH_ID] = BIT(HASH_1) | BIT(HASH_2) | BIT(HASH_3) | BIT(HASH_4),
-        [RUNNELPIN_HASHSUM_LENGTH] = BIT(HASHSUM_LENGTH),
-        [RUNNELPIN_HEADER_SIZE] = BIT(HEADER_SIZE) | BIT(HASHSUM_LENGTH),
-        [RUNNELPIN_SCHEME] = BIT(SCHEME),
-        [RUNNELPIN_SIGNATURE_LENGTH] = BIT(SIGNATURE_LENGTH),
-        [RUNNELPIN_BLOCKS] = BIT(BLOCK_COUNT) | BIT(BLOCK_SIZE) | BIT(HASHSUM_LENGTH) | BIT(PADDING),
-        [RUNNELPIN_IMAGE_LENGTH] = BIT(HEADER_SIZE) | BIT(SIGNATURE_LENGTH) | BIT(BLOCK_COUNT) | BIT(BLOCK_SIZE),
-    };
+    switch (code) {
+    case RUNNELPIN_HEADER_MAGIC:
+        return BIT(MAGIC);
+    case RUNNELPIN_HASH_ID:
+        return BIT(HASH_1) | BIT(HASH_2) | BIT(HASH_3) | BIT(HASH_4);
+    case RUNNELPIN_HASHSUM_LENGTH:
+        return BIT(HASHSUM_LENGTH);
+    case RUNNELPIN_HEADER_SIZE:
+        return BIT(HEADER_SIZE) | BIT(HASHSUM_LENGTH);
+    case RUNNELPIN_SCHEME:
+        return BIT(SCHEME);
+    case RUNNELPIN_SIGNATURE_LENGTH:
+        return BIT(SIGNATURE_LENGTH);
+    case RUNNELPIN_BLOCKS:
+        return BIT(BLOCK_COUNT) | BIT(BLOCK_SIZE) | BIT(HASHSUM_LENGTH) | BIT(PADDING);
+    case RUNNELPIN_IMAGE_LENGTH:
+        return BIT(HEADER_SIZE) | BIT(SIGNATURE_LENGTH) | BIT(BLOCK_COUNT) | BIT(BLOCK_SIZE);
+    default:
+        return 0;
+    }
 #undef BIT
-    return fields[code];
 }
 
 static void say_fields(struct text *text, const struct call *c)
@@ -140,7 +141,13 @@ static void say_found(struct text *text, const struct call *c, const struct comm
         say(text, "; the register is 0x%" PRIx64, little(results + 4 * at[16], 4));
 }
 
-static void say_place(struct text *text, const struct call *c)
+/* Whether the code is given for a command's header alone, before the parameters behind it are looked at. */
+static int is_of_header(uint64_t code)
+{
+    return code == RUNNELPIN_COMMAND_CUT || code == RUNNELPIN_COMMAND_ID || code == RUNNELPIN_COMMAND_LENGTH;
+}
+
+static void say_refused_command(struct text *text, const struct call *c)
 {
     struct stream file = c->is_image ? stream_of_image(c->image) : stream_of_file(c->image);
     uint64_t place = c->answer.place;
@@ -149,8 +156,8 @@ static void say_place(struct text *text, const struct call *c)
         say(text, "%" PRIu64 " bytes are left, where a command begins with %d", file.length - place, COMMAND_HEADER);
         return;
     }
-    /* A header was judged, so its last byte's block is proved; from 20 on the parameters were too. */
-    if (c->is_image && c->answer.code < RUNNELPIN_NOT_REACHABLE)
+    /* What was judged is proved, and only that may be shown. */
+    if (c->is_image && is_of_header(c->answer.code))
         file.known = bytes_before_block(&file, block_of_byte(&file, place + COMMAND_HEADER - 1) + 1);
     struct command command;
     read_command(&file, place, &command);
@@ -159,53 +166,58 @@ static void say_place(struct text *text, const struct call *c)
         say_found(text, c, &command);
 }
 
-static void say_end(struct text *text, const struct call *c)
+/* What else there is to say where an answer has no place. */
+static void say_cause(struct text *text, const struct call *c)
 {
-    say(text, "; file offset %" PRIu64 ": the end", c->answer.place);
+    switch (c->answer.code) {
+    case RUNNELPIN_ARGUMENT:
+        say_argument(text, c);
+        break;
+    case RUNNELPIN_MAP:
+        say_map(text, c);
+        break;
+    case RUNNELPIN_TABLE:
+        say_table(text, c);
+        break;
+    case RUNNELPIN_APPROVED:
+        say_difference(text, c);
+        break;
+    case RUNNELPIN_FILE_MAGIC:
+        say_file(text, c);
+        break;
+    default:
+        say_fields(text, c);
+    }
 }
 
-/* Who says the rest, behind a code's own words. */
-static void (*const rests[CODES])(struct text *, const struct call *) = {
-    [RUNNELPIN_ARGUMENT] = say_argument,
-    [RUNNELPIN_MAP] = say_map,
-    [RUNNELPIN_TABLE] = say_table,
-    [RUNNELPIN_APPROVED] = say_difference,
-    [RUNNELPIN_HEADER_MAGIC] = say_fields,
-    [RUNNELPIN_HASH_ID] = say_fields,
-    [RUNNELPIN_HASHSUM_LENGTH] = say_fields,
-    [RUNNELPIN_HEADER_SIZE] = say_fields,
-    [RUNNELPIN_SCHEME] = say_fields,
-    [RUNNELPIN_SIGNATURE_LENGTH] = say_fields,
-    [RUNNELPIN_BLOCKS] = say_fields,
-    [RUNNELPIN_IMAGE_LENGTH] = say_fields,
-    [RUNNELPIN_BLOCK_HASHSUM] = say_block,
-    [RUNNELPIN_BLOCK_PADDING] = say_block,
-    [RUNNELPIN_LAST_HASH] = say_block,
-    [RUNNELPIN_FILE_MAGIC] = say_file,
-    [RUNNELPIN_COMMAND_CUT] = say_place,
-    [RUNNELPIN_COMMAND_ID] = say_place,
-    [RUNNELPIN_COMMAND_LENGTH] = say_place,
-    [RUNNELPIN_NOT_REACHABLE] = say_place,
-    [RUNNELPIN_NOT_RAM] = say_place,
-    [RUNNELPIN_TEXT] = say_place,
-    [RUNNELPIN_CPUID_MISSING] = say_place,
-    [RUNNELPIN_REGISTER] = say_place,
-    [RUNNELPIN_NO_RECORD] = say_place,
-    [RUNNELPIN_CHECK_FAILED] = say_place,
-    [RUNNELPIN_NO_ENTRY] = say_end,
-};
+static void say_place(struct text *text, const struct call *c, enum place_kind kind)
+{
+    switch (kind) {
+    case NO_PLACE:
+        say_cause(text, c);
+        break;
+    case BLOCK_NUMBER:
+        say_block(text, c);
+        break;
+    case FILE_OFFSET:
+        say_refused_command(text, c);
+        break;
+    case FILE_LENGTH:
+        say(text, "; file offset %" PRIu64 ": the end", c->answer.place);
+        break;
+    }
+}
 
 void say_refusal(struct text *text, const struct call *c)
 {
-    uint64_t code = c->answer.code;
-    if (code >= CODES) {
-        say(text, "refused: %" PRIu64 ", which this tool has no words for", code);
+    const struct code *code = code_of(c->answer.code);
+    if (!code) {
+        say(text, "refused: %" PRIu64 ", which this tool has no words for", c->answer.code);
         return;
     }
-    say(text, "refused: %" PRIu64 ", %s: %s", code, code_words[code].name, code_words[code].meaning);
-    if (rests[code])
-        rests[code](text, c);
-    if (c->board.map.length && code > RUNNELPIN_IMAGE_LENGTH)
+    say(text, "refused: %" PRIu64 ", %s: %s", c->answer.code, code->name, code->meaning);
+    say_place(text, c, code->place_kind);
+    if (c->board.map.length && code->effect == MAY_CHANGE)
         say(text, "; commands done %" PRIu64 ", bytes stored %" PRIu64 ", entry 0", c->answer.commands,
             c->answer.stored);
 }

@@ -3,12 +3,7 @@
 #define ANSWER_H
 
 #include "board.h"
-
-struct answer {
-    uint64_t code, place, commands, stored, entry;
-};
-
-struct answer read_answer(const uint8_t *record);
+#include "runnelpin.h"
 
 /* What a call was given, and what it answered. */
 struct call {
@@ -16,7 +11,7 @@ struct call {
     int is_image;
     uint64_t signature_length;
     struct board board;
-    struct answer answer;
+    struct runnelpin_answer answer;
 };
 
 /* A call that was given nothing yet; what it doesn't take stays so. */

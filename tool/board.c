@@ -1,11 +1,9 @@
 #include "board.h"
 
+#include "cpuid.h"
+
 #include <inttypes.h>
 #include <stdlib.h>
-
-enum { REGION_BYTES = 16, MOST_REGIONS = 16, RECORD_BYTES = 24, MOST_RECORDS = 64 };
-
-#define HIGHEST_END ((uint64_t)1 << 52)
 
 /* What is wrong with a region behind one that ends at `end`; NULL where nothing is. */
 static const char *region_fault(uint64_t base, uint64_t length, uint64_t end)
@@ -14,7 +12,7 @@ static const char *region_fault(uint64_t base, uint64_t length, uint64_t end)
         return "has length 0";
     if (base < end)
         return "begins below the end of the one before";
-    if (base > HIGHEST_END || length > HIGHEST_END - base)
+    if (base > MOST_END || length > MOST_END - base)
         return "ends over 2^52";
     return NULL;
 }

@@ -2,9 +2,8 @@
 #ifndef BOARD_H
 #define BOARD_H
 
+#include "map.h"
 #include "text.h"
-
-#define MOST_MEMORY ((uint64_t)1 << 32)
 
 struct board {
     struct bytes map, table, memory;

@@ -7,14 +7,6 @@
 #include <stdlib.h>
 #include <sys/mman.h>
 
-uint64_t little(const uint8_t *at, size_t width)
-{
-    uint64_t value = 0;
-    while (width--)
-        value = value << 8 | at[width];
-    return value;
-}
-
 void put_little(uint8_t *at, size_t width, uint64_t value)
 {
     for (size_t i = 0; i < width; i++)

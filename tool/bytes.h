@@ -2,15 +2,13 @@
 #ifndef BYTES_H
 #define BYTES_H
 
-#include <stddef.h>
-#include <stdint.h>
+#include "little.h"
 
 struct bytes {
     uint8_t *at;
     size_t length;
 };
 
-uint64_t little(const uint8_t *at, size_t width);
 void put_little(uint8_t *at, size_t width, uint64_t value);
 
 /* Memory that is never given back: the tool does one job and ends. */

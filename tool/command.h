@@ -19,7 +19,7 @@ struct command {
 
 /*
  * Reads the command at an offset within the file, as far as its bytes count. Gives the refusal that
- * the file alone decides: 17 to 20, 22, 24, or 0.
+ * the file alone decides, whatever map and table there are, or 0.
  */
 uint64_t read_command(const struct stream *file, uint64_t offset, struct command *command);
 

@@ -12,5 +12,5 @@ struct bytes host_table(struct text *about)
     if (table->left_out)
         say(about, "; %" PRIu64 " records from leaf 0x%" PRIx32 ", sub-leaf %" PRIu32 " on", table->left_out,
             table->leaf, table->sub_leaf);
-    return (struct bytes){(uint8_t *)table->records, table->count * sizeof *table->records};
+    return (struct bytes){(uint8_t *)table->records, table->count * RECORD_BYTES};
 }

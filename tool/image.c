@@ -1,43 +1,36 @@
 #include "image.h"
 
-#include "runnelpin.h"
-
 #include <string.h>
 
-const struct field_form field_forms[FIELDS] = {
-    [FIELD_MAGIC] = {"magic", 0, 4},
-    [FIELD_BLOCK_COUNT] = {"block_count", 4, 4},
-    [FIELD_BLOCK_SIZE] = {"block_size", 8, 4},
-    [FIELD_SIGNATURE_LENGTH] = {"signature_length", 12, 4},
-    [FIELD_HEADER_SIZE] = {"header_size", 16, 2},
-    [FIELD_HASHSUM_LENGTH] = {"hashsum_length", 18, 2},
-    [FIELD_HASH_1] = {"hash_1", 20, 2},
-    [FIELD_HASH_2] = {"hash_2", 22, 2},
-    [FIELD_HASH_3] = {"hash_3", 24, 2},
-    [FIELD_HASH_4] = {"hash_4", 26, 2},
-    [FIELD_SCHEME] = {"signature_scheme", 28, 2},
-    [FIELD_RESERVED] = {"reserved", 30, 2},
-    [FIELD_PADDING] = {"padding_length", 32, 4},
+const char *const field_names[FIELDS] = {
+    [FIELD_MAGIC] = "magic",
+    [FIELD_BLOCK_COUNT] = "block_count",
+    [FIELD_BLOCK_SIZE] = "block_size",
+    [FIELD_SIGNATURE_LENGTH] = "signature_length",
+    [FIELD_HEADER_SIZE] = "header_size",
+    [FIELD_HASHSUM_LENGTH] = "hashsum_length",
+    [FIELD_HASH_1] = "hash_1",
+    [FIELD_HASH_2] = "hash_2",
+    [FIELD_HASH_3] = "hash_3",
+    [FIELD_HASH_4] = "hash_4",
+    [FIELD_SCHEME] = "signature_scheme",
+    [FIELD_RESERVED] = "reserved",
+    [FIELD_PADDING] = "padding_length",
 };
-
-uint64_t field(const uint8_t *header, enum field which)
-{
-    return little(header + field_forms[which].at, field_forms[which].width);
-}
 
 void say_field_name(struct text *text, enum field which)
 {
-    for (const char *at = field_forms[which].name; *at; at++)
+    for (const char *at = field_names[which]; *at; at++)
         say(text, "%c", *at == '_' ? ' ' : *at);
 }
 
 static const struct hash hashes[] = {{"none", 0, 0}, {"sha256", 2, 32}, {"sha384", 3, 48}, {"sha512", 4, 64}};
 
-enum { HASH_NAMES = sizeof hashes / sizeof *hashes };
+enum { KNOWN_HASHES = sizeof hashes / sizeof *hashes };
 
 const struct hash *hash_named(const char *name, size_t length)
 {
-    for (int i = 0; i < HASH_NAMES; i++)
+    for (int i = 0; i < KNOWN_HASHES; i++)
         if (strlen(hashes[i].name) == length && !memcmp(hashes[i].name, name, length))
             return &hashes[i];
     return NULL;
@@ -45,7 +38,7 @@ const struct hash *hash_named(const char *name, size_t length)
 
 const struct hash *hash_of_id(uint64_t id)
 {
-    for (int i = 0; i < HASH_NAMES; i++)
+    for (int i = 0; i < KNOWN_HASHES; i++)
         if (hashes[i].id == id)
             return &hashes[i];
     return NULL;
@@ -63,22 +56,25 @@ struct bytes own_header(struct bytes image)
     return image;
 }
 
-uint64_t own_signature_length(struct bytes header)
-{
-    return header.length < LEAST_HEADER ? 1 : field(header.at, FIELD_SIGNATURE_LENGTH);
-}
-
 uint64_t image_length(const uint8_t *header)
 {
     return field(header, FIELD_HEADER_SIZE) + field(header, FIELD_SIGNATURE_LENGTH) +
            field(header, FIELD_BLOCK_COUNT) * field(header, FIELD_BLOCK_SIZE);
 }
 
+struct runnelpin_answer open_image(struct bytes image, struct bytes header, uint64_t signature_length,
+                                   struct bytes file)
+{
+    struct runnelpin_answer answer;
+    runnelpin_open(image.at, image.length, header.at, header.length, signature_length, file.at, file.length,
+                   (uint8_t *)&answer, sizeof answer);
+    return answer;
+}
+
 uint64_t judge_image(struct bytes image, struct bytes header, uint64_t signature_length)
 {
-    uint8_t answer[RUNNELPIN_ANSWER_BYTES];
-    uint64_t code = runnelpin_open(image.at, image.length, header.at, header.length, signature_length, NULL, 0, answer,
-                                   sizeof answer);
+    struct bytes none = {NULL, 0};
+    uint64_t code = open_image(image, header, signature_length, none).code;
     return code == RUNNELPIN_OUTPUT_LENGTH ? RUNNELPIN_DONE : code;
 }
 

@@ -2,39 +2,18 @@
 #ifndef IMAGE_H
 #define IMAGE_H
 
+#include "fields.h"
+#include "runnelpin.h"
 #include "text.h"
 
 #define IMAGE_MAGIC 0xe6019598u
 #define FILE_MAGIC 0x8adc5fa2448cb65eu
 
-enum { LARGEST = 1 << 30, LEAST_HEADER = 36, HASHES = 4 };
+enum { LARGEST = 1 << 30, HASHES = 4 };
 
-enum field {
-    FIELD_MAGIC,
-    FIELD_BLOCK_COUNT,
-    FIELD_BLOCK_SIZE,
-    FIELD_SIGNATURE_LENGTH,
-    FIELD_HEADER_SIZE,
-    FIELD_HASHSUM_LENGTH,
-    FIELD_HASH_1,
-    FIELD_HASH_2,
-    FIELD_HASH_3,
-    FIELD_HASH_4,
-    FIELD_SCHEME,
-    FIELD_RESERVED,
-    FIELD_PADDING,
-    FIELDS
-};
+/* With _ for spaces. */
+extern const char *const field_names[FIELDS];
 
-/* A field's name, with _ for spaces, its first byte and its width. */
-struct field_form {
-    const char *name;
-    size_t at, width;
-};
-
-extern const struct field_form field_forms[FIELDS];
-
-uint64_t field(const uint8_t *header, enum field which);
 void say_field_name(struct text *text, enum field which);
 
 /* A hash that the library has: its name, its ID and the length of its digest. */
@@ -49,13 +28,14 @@ const struct hash *hash_of_id(uint64_t id);
 /* The header as the image itself has it, which nothing has approved. */
 struct bytes own_header(struct bytes image);
 
-/* The signature length that a header tells; one that is too short to tell it is refused with any. */
-uint64_t own_signature_length(struct bytes header);
-
 /* How long an image with this header is. */
 uint64_t image_length(const uint8_t *header);
 
-/* The code that opening gives before it looks at a block: 0, 1 or 4 to 12. */
+/* Opens the image into a file, which is as long as the header says. */
+struct runnelpin_answer open_image(struct bytes image, struct bytes header, uint64_t signature_length,
+                                   struct bytes file);
+
+/* The code that opening gives before it looks at a block, or 0. */
 uint64_t judge_image(struct bytes image, struct bytes header, uint64_t signature_length);
 
 /* The bytes of a file: as they lie, or in the blocks of an image. */

@@ -1,5 +1,6 @@
 #include "lists.h"
 
+#include "cpuid.h"
 #include "fail.h"
 #include "files.h"
 #include "numbers.h"
@@ -16,7 +17,8 @@ struct form {
 };
 
 static const struct form region = {"a region", "base length", 2, 8};
-static const struct form record = {"a CPUID record", "two inputs, EAX ECX, and four results, EAX EBX ECX EDX", 6, 4};
+static const struct form record = {"a CPUID record", "two inputs, EAX ECX, and four results, EAX EBX ECX EDX",
+                                   RECORD_WORDS, 4};
 
 struct place {
     const char *path;

@@ -4,7 +4,7 @@
 
 #include "bytes.h"
 
-/* The records as the library reads them; a line that is none ends the tool. */
+/* The records as the library reads them; a line that can't be read ends the tool. */
 struct bytes read_map(const char *path);
 struct bytes read_table(const char *path);
 

@@ -1,6 +1,5 @@
 #include "image.h"
 #include "jobs.h"
-#include "runnelpin.h"
 #include "taking.h"
 
 int job_open(const struct request *request)
@@ -12,10 +11,7 @@ int job_open(const struct request *request)
     c->answer.code = judge_image(c->image, c->header, c->signature_length);
     if (!c->answer.code) {
         file = zeros(stream_of_image(c->image).length);
-        uint8_t record[RUNNELPIN_ANSWER_BYTES];
-        runnelpin_open(c->image.at, c->image.length, c->header.at, c->header.length, c->signature_length, file.at,
-                       file.length, record, sizeof record);
-        c->answer = read_answer(record);
+        c->answer = open_image(c->image, c->header, c->signature_length, file);
         file.length = c->answer.stored;
     }
     give_output(&r, file);

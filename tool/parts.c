@@ -2,7 +2,6 @@
 #include "files.h"
 #include "image.h"
 #include "jobs.h"
-#include "runnelpin.h"
 #include "taking.h"
 
 #include <inttypes.h>
@@ -14,7 +13,7 @@ int job_header(const struct request *request)
     c->is_image = 1;
     c->image = read_file(request->operand, LARGEST);
     c->header = own_header(c->image);
-    c->signature_length = own_signature_length(c->header);
+    c->signature_length = stated_signature_length(c->header.at, c->header.length);
     c->answer.code = judge_image(c->image, c->header, c->signature_length);
     give_output(&r, c->header);
     if (!c->answer.code)

@@ -23,7 +23,7 @@ struct text *note(struct report *r)
 
 static void print_json(const struct report *r)
 {
-    const struct answer *a = &r->call.answer;
+    const struct runnelpin_answer *a = &r->call.answer;
     if (!json_depth())
         json_open(NULL, '{');
     json_number("code", a->code);

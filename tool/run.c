@@ -3,7 +3,6 @@
 #include "image.h"
 #include "jobs.h"
 #include "lists.h"
-#include "runnelpin.h"
 #include "taking.h"
 
 #include <inttypes.h>
@@ -26,10 +25,9 @@ static void take_board(struct report *r)
     }
 }
 
-static int finish_run(struct report *r, const uint8_t *record)
+static int finish_run(struct report *r)
 {
-    const struct answer *a = &r->call.answer;
-    r->call.answer = read_answer(record);
+    const struct runnelpin_answer *a = &r->call.answer;
     give_output(r, r->call.board.memory);
     if (!a->code)
         say(&r->words, "done: %" PRIu64 " commands, %" PRIu64 " bytes stored, entry 0x%" PRIx64, a->commands, a->stored,
@@ -40,26 +38,24 @@ static int finish_run(struct report *r, const uint8_t *record)
 int job_load(const struct request *request)
 {
     struct report r = new_report(request);
-    const struct call *c = &r.call;
+    struct call *c = &r.call;
     const struct board *b = &c->board;
-    uint8_t record[RUNNELPIN_ANSWER_BYTES];
     take_image(&r);
     take_board(&r);
     runnelpin_load(c->image.at, c->image.length, c->header.at, c->header.length, b->map.at, b->map.length, b->table.at,
-                   b->table.length, b->mode, c->signature_length, b->memory.at, b->memory.length, record,
-                   sizeof record);
-    return finish_run(&r, record);
+                   b->table.length, b->mode, c->signature_length, b->memory.at, b->memory.length,
+                   (uint8_t *)&c->answer, sizeof c->answer);
+    return finish_run(&r);
 }
 
 int job_run(const struct request *request)
 {
     struct report r = new_report(request);
-    const struct call *c = &r.call;
+    struct call *c = &r.call;
     const struct board *b = &c->board;
-    uint8_t record[RUNNELPIN_ANSWER_BYTES];
-    r.call.image = read_file(request->operand, LARGEST);
+    c->image = read_file(request->operand, LARGEST);
     take_board(&r);
     runnelpin_run(c->image.at, c->image.length, b->map.at, b->map.length, b->table.at, b->table.length, b->mode,
-                  b->memory.at, b->memory.length, record, sizeof record);
-    return finish_run(&r, record);
+                  b->memory.at, b->memory.length, (uint8_t *)&c->answer, sizeof c->answer);
+    return finish_run(&r);
 }

@@ -1,9 +1,9 @@
+#include "codes.h"
 #include "command.h"
 #include "files.h"
 #include "image.h"
 #include "jobs.h"
 #include "listing.h"
-#include "runnelpin.h"
 #include "survey.h"
 #include "taking.h"
 
@@ -33,9 +33,9 @@ static void list_field(const uint8_t *header, enum field f)
     else if (f == FIELD_MAGIC)
         say(&text, "0x%08" PRIx64, value);
     if (text.at)
-        list_text(field_forms[f].name, &text);
+        list_text(field_names[f], &text);
     else
-        list_number(field_forms[f].name, value);
+        list_number(field_names[f], value);
 }
 
 static void list_header(struct bytes header)
@@ -108,17 +108,23 @@ static void list_command(const struct command *c)
     close_part('}');
 }
 
+static int has_place(uint64_t number, enum place_kind kind)
+{
+    const struct code *code = code_of(number);
+    return code && code->place_kind == kind;
+}
+
 /* Lists the commands as far as bytes are known. A refused one comes before a block that is refused behind it. */
 static void list_commands(struct report *r, const struct stream *file)
 {
-    struct answer *a = &r->call.answer;
+    struct runnelpin_answer *a = &r->call.answer;
     struct walk w = begin_walk(file);
     open_part("program", '[');
     while (next_command(&w))
         list_command(&w.command);
     close_part(']');
     a->commands = w.whole;
-    if (!a->code || (a->code > RUNNELPIN_IMAGE_LENGTH && w.code > RUNNELPIN_FILE_MAGIC)) {
+    if (!a->code || (has_place(a->code, BLOCK_NUMBER) && has_place(w.code, FILE_OFFSET))) {
         a->code = w.code;
         a->place = w.code ? w.offset : 0;
     }
@@ -143,7 +149,7 @@ static void show_image(struct report *r)
     c->is_image = 1;
     c->header = own_header(c->image);
     list_header(c->header);
-    c->signature_length = own_signature_length(c->header);
+    c->signature_length = stated_signature_length(c->header.at, c->header.length);
     c->answer.code = judge_image(c->image, c->header, c->signature_length);
     if (!c->answer.code || c->answer.code == RUNNELPIN_IMAGE_LENGTH) {
         struct survey s = survey_blocks(c->image);

@@ -1,7 +1,5 @@
 #include "survey.h"
 
-#include "runnelpin.h"
-
 /* How many blocks of those that the header counts the image has whole. */
 static uint64_t whole_blocks(struct bytes image)
 {
@@ -12,24 +10,21 @@ static uint64_t whole_blocks(struct bytes image)
 }
 
 /* Opens the image with its own header. */
-static struct answer open_whole(struct bytes image)
+static struct runnelpin_answer open_whole(struct bytes image)
 {
-    struct bytes header = own_header(image), file = zeros(stream_of_image(image).length);
-    uint8_t record[RUNNELPIN_ANSWER_BYTES];
-    runnelpin_open(image.at, image.length, header.at, header.length, field(image.at, FIELD_SIGNATURE_LENGTH), file.at,
-                   file.length, record, sizeof record);
-    return read_answer(record);
+    struct bytes file = zeros(stream_of_image(image).length);
+    return open_image(image, own_header(image), field(image.at, FIELD_SIGNATURE_LENGTH), file);
 }
 
 /* Opens the image as if its whole blocks were all that its header counts. */
-static struct answer open_cut(struct bytes image, uint64_t whole)
+static struct runnelpin_answer open_cut(struct bytes image, uint64_t whole)
 {
-    uint8_t *count = image.at + field_forms[FIELD_BLOCK_COUNT].at;
-    size_t width = field_forms[FIELD_BLOCK_COUNT].width;
+    uint8_t *count = image.at + field_places[FIELD_BLOCK_COUNT].at;
+    size_t width = field_places[FIELD_BLOCK_COUNT].width;
     uint64_t blocks = little(count, width);
     put_little(count, width, whole);
     image.length = image_length(image.at);
-    struct answer answer = open_whole(image);
+    struct runnelpin_answer answer = open_whole(image);
     put_little(count, width, blocks);
     /* The hash field of the last block here is only that of the next one, which is cut off. */
     if (whole < blocks && answer.code == RUNNELPIN_LAST_HASH)

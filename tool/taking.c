@@ -1,8 +1,8 @@
 #include "taking.h"
 
+#include "codes.h"
 #include "files.h"
 #include "image.h"
-#include "runnelpin.h"
 
 #include <inttypes.h>
 
@@ -10,7 +10,7 @@ const char not_approved[] = "nothing has approved this header";
 
 static void take_signature_length(struct report *r)
 {
-    uint64_t own = own_signature_length(r->call.header);
+    uint64_t own = stated_signature_length(r->call.header.at, r->call.header.length);
     r->call.signature_length = option_number(r->request, OPTION_SIGNATURE, own);
     if (!r->request->value[OPTION_SIGNATURE] && r->call.header.length >= LEAST_HEADER)
         say(note(r), "the signature length expected is the header's own, %" PRIu64, own);
@@ -24,13 +24,21 @@ void take_image(struct report *r)
     take_signature_length(r);
 }
 
+/* Whether the output is to be written: on a refusal only if that is asked for and if there is something. */
+static int is_wanted(const struct report *r)
+{
+    const struct code *code = code_of(r->call.answer.code);
+    if (!r->call.answer.code)
+        return 1;
+    return r->request->value[OPTION_PARTIAL] && code && code->effect == MAY_CHANGE;
+}
+
 void give_output(struct report *r, struct bytes output)
 {
     const char *path = r->request->value[OPTION_OUTPUT];
-    uint64_t code = r->call.answer.code;
-    if (!path || (code && (code <= RUNNELPIN_IMAGE_LENGTH || !r->request->value[OPTION_PARTIAL])))
+    if (!path || !is_wanted(r))
         return;
     write_file(path, output);
-    if (code)
+    if (r->call.answer.code)
         say(note(r), "%s is written as far as it came: %zu bytes", path, output.length);
 }

@@ -1,11 +1,10 @@
-/* Control: a loader with an answer that is none of a load. */
+/* Control: a loader that answers with a code that a load does not give. */
 #include "boot.h"
-#include "runnelpin.h"
 
-struct answer __wrap_boot_load(const struct unit *unit, struct slice image, struct slice header);
+struct runnelpin_answer __wrap_boot_load(const struct unit *unit, struct slice image, struct slice header);
 
-struct answer __wrap_boot_load(const struct unit *unit, struct slice image, struct slice header)
+struct runnelpin_answer __wrap_boot_load(const struct unit *unit, struct slice image, struct slice header)
 {
     (void)unit, (void)image, (void)header;
-    return (struct answer){ .code = RUNNELPIN_EMPTY_FILE };
+    return (struct runnelpin_answer){ .code = RUNNELPIN_EMPTY_FILE };
 }

@@ -240,7 +240,7 @@ fn commands(met: &mut BTreeSet<u64>) {
         File(vec![0xab; 9]),
         &[
             "refused: 16, ",
-            "has 9 bytes and begins with ab ab ab ab ab ab ab ab;",
+            "has 9 bytes and begins with ab ab ab ab ab ab ab ab\n",
         ],
     );
     let mut short = File::new().entry(1);

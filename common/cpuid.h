@@ -5,13 +5,13 @@
 #include <stddef.h>
 #include <stdint.h>
 
-enum { MOST_RECORDS = 64 };
+enum { MOST_RECORDS = 64, RECORD_WORDS = 6, RECORD_BYTES = 4 * RECORD_WORDS };
 
 /* What the table has of the leaves that there are. */
 #define CPUID_LEFT_OUT "sub-leaves of leaves other than 0x4, 0x7, 0xb and 0xd; leaves from 0x40000000 to 0x7fffffff"
 
 struct cpuid_table {
-    uint32_t records[MOST_RECORDS][6]; /* as the library reads them: EAX and ECX inputs, then four results */
+    uint32_t records[MOST_RECORDS][RECORD_WORDS]; /* as the library reads them: EAX and ECX inputs, then four results */
     size_t count;
     uint64_t left_out;       /* records that there was no room for */
     uint32_t leaf, sub_leaf; /* the first of these */
