@@ -37,13 +37,13 @@ static struct slice take(uint32_t magic, uint64_t info)
     struct slice header = approved_header(handed.command_line);
 
     if (number == END_PROTOCOL)
-        refuse(END_PROTOCOL, "no memory map by PVH or multiboot2");
+        refuse(END_PROTOCOL, "the boot loader gave no memory map, by PVH or multiboot2");
     if (number)
-        refuse(END_RANGES, "the memory map is too long");
+        refuse(END_RANGES, "the memory map has too many ranges");
     if (!is_mapped(handed.image))
-        refuse(END_MODULE, "no image as a boot module");
+        refuse(END_MODULE, "no image: it is given as a boot module");
     if (!header.length)
-        refuse(END_HEADER, "no approved header, the word header=HEX of the command line");
+        refuse(END_HEADER, "no approved header: it is given as header=HEX on the command line");
     say_handed(&handed, header);
     return header;
 }
@@ -55,14 +55,14 @@ static void find_memory(void)
 
     /* Not every boot loader looks. What is written past the end of RAM reads as zeros, the answer 0 among them. */
     if (!is_all_usable(&handed.ranges, begin, length))
-        refuse(END_ROOM, "too little RAM for the stub itself");
+        refuse(END_ROOM, "not enough RAM for the stub itself");
     add_range(&handed.ranges, 0, PAGE, 0);
     add_range(&handed.ranges, begin, length, 0);
     if (!is_all_usable(&handed.ranges, image, handed.image.length))
-        refuse(END_ROOM, "no RAM of its own for the image");
+        refuse(END_ROOM, "the image is not in RAM of its own");
     add_range(&handed.ranges, image, handed.image.length, 0);
     if (handed.ranges.overflowed)
-        refuse(END_RANGES, "the memory map is too long");
+        refuse(END_RANGES, "the memory map has too many ranges");
     find_regions(&handed.ranges, &regions);
     say_memory(&regions, handed.image);
 }
@@ -102,11 +102,11 @@ void boot(uint32_t magic, uint64_t info)
     answer = load(header);
     code = code_of(answer.code);
     if (!code || !(code->calls & BY_LOAD))
-        refuse(END_CODE, "the loader has no such answer");
+        refuse(END_CODE, "this is not a code that a load can give");
     if (answer.code != RUNNELPIN_DONE)
         end((uint8_t)answer.code);
     if (!boot_is_ram(map(), answer.entry))
-        refuse(END_ENTRY, "the entry is not in lent RAM");
+        refuse(END_ENTRY, "the entry is not in the lent RAM");
     say("entering\n");
     drop_window();
     boot_hand_off(answer.entry);

@@ -89,12 +89,12 @@ end:    cld                             # its flag may be what was wrong
 text:   .ascii  TEXT
 text_end:
 in_order:
-        .asciz  "loaded program: all registers zero, the second region's bytes and the fill at their addresses\n"
+        .asciz  "loaded program: all registers zero; the second region's bytes and the fill at their addresses\n"
 not_zero:
         .asciz  "loaded program: a register was not zero\n"
 still_there:
         .asciz  "loaded program: the window is still there\n"
 elsewhere:
-        .asciz  "loaded program: its bytes do not stand at their addresses\n"
+        .asciz  "loaded program: its bytes are not at their addresses\n"
 
         .section .note.GNU-stack, "", @progbits

@@ -23,7 +23,7 @@ void say_handed(const struct handed *handed, struct slice header)
 
 static void say_left_out(const struct regions *regions, struct slice image)
 {
-    say("left out: page 0 and parts of pages; the stub, ");
+    say("left out: page 0 and incomplete pages; the stub, ");
     say_range(address(stub_begin), address(stub_end));
     say("; the pages of the image, ");
     say_range(address(image.at), address(image.at + image.length));
@@ -47,9 +47,9 @@ void say_memory(const struct regions *regions, struct slice image)
     say_left_out(regions, image);
     say("lent: ");
     say_number(regions->length);
-    say(" bytes, one behind the other from ");
+    say(" bytes, as one window at ");
     say_address(WINDOW_BASE);
-    say(" on\n");
+    say("\n");
 }
 
 void say_cpuid(const struct cpuid_table *table)
@@ -72,7 +72,7 @@ void say_cpuid(const struct cpuid_table *table)
 void say_answer(struct runnelpin_answer answer)
 {
     static const char *const places[] = {
-        [BLOCK_NUMBER] = "; block ", [FILE_OFFSET] = "; file offset ", [FILE_LENGTH] = "; file offset "
+        [BLOCK_NUMBER] = "; block ", [FILE_OFFSET] = "; file offset ", [FILE_LENGTH] = "; file length "
     };
     const struct code *code = code_of(answer.code);
 

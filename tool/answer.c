@@ -19,7 +19,7 @@ static void say_argument(struct text *text, const struct call *c)
     else if (c->signature_length < 1 || c->signature_length > 4096)
         say(text, "; the signature length is %" PRIu64, c->signature_length);
     else
-        say(text, "; it is over 2^30 bytes");
+        say(text, "; the input is over 2^30 bytes");
 }
 
 static void say_map(struct text *text, const struct call *c)
@@ -27,9 +27,9 @@ static void say_map(struct text *text, const struct call *c)
     say(text, "; ");
     uint64_t total = map_total(c->board.map, text);
     if (total && c->board.memory.length > MOST_MEMORY) /* read no further */
-        say(text, "memory has over 2^32 bytes, the regions %" PRIu64, total);
+        say(text, "memory has over 2^32 bytes, but the regions have %" PRIu64, total);
     else if (total)
-        say(text, "memory has %zu bytes, the regions %" PRIu64, c->board.memory.length, total);
+        say(text, "memory has %zu bytes, but the regions have %" PRIu64, c->board.memory.length, total);
 }
 
 static void say_table(struct text *text, const struct call *c)
@@ -43,9 +43,9 @@ static void say_difference(struct text *text, const struct call *c)
     size_t same = 0;
     while (same < c->header.length && same < c->image.length && c->header.at[same] == c->image.at[same])
         same++;
-    say(text, "; the header has %zu bytes, the image %zu", c->header.length, c->image.length);
-    if (same < c->header.length)
-        say(text, same < c->image.length ? ", they differ at byte %zu" : ", it ends at byte %zu", same);
+    say(text, "; approved header length %zu; image length %zu", c->header.length, c->image.length);
+    if (same < c->header.length && same < c->image.length)
+        say(text, "; they differ at byte %zu", same);
 }
 
 /* What a code says of the header: the fields that it judges, as bits. */
@@ -86,11 +86,11 @@ static void say_fields(struct text *text, const struct call *c)
         say(text, f == FIELD_MAGIC ? " 0x%" PRIx64 : " %" PRIu64, field(header, f));
     }
     if (c->answer.code == RUNNELPIN_HEADER_SIZE)
-        say(text, "; approved are %zu bytes", c->header.length);
+        say(text, "; approved header length %zu", c->header.length);
     if (c->answer.code == RUNNELPIN_SIGNATURE_LENGTH)
-        say(text, "; expected are %" PRIu64, c->signature_length);
+        say(text, "; expected %" PRIu64, c->signature_length);
     if (c->answer.code == RUNNELPIN_IMAGE_LENGTH)
-        say(text, "; the image has %zu bytes of %" PRIu64, c->image.length, image_length(header));
+        say(text, "; image length %zu instead of %" PRIu64, c->image.length, image_length(header));
 }
 
 /* The command that the first byte which isn't proved belongs to, where the file holds commands. */
@@ -101,9 +101,9 @@ static void say_command_reached(struct text *text, const struct stream *file)
     }
     if (w.code || !w.offset)
         return;
-    say(text, "; command %" PRIu64 " at file offset %" PRIu64 " ", w.whole + 1, w.offset);
+    say(text, "; command %" PRIu64 ", at file offset %" PRIu64 ", ", w.whole + 1, w.offset);
     if (w.command.is_known) {
-        say(text, "is cut there: ");
+        say(text, "is cut off there: ");
         say_command(text, &w.command);
     } else {
         say(text, "can't be read");
@@ -117,7 +117,7 @@ static void say_block(struct text *text, const struct call *c)
     file.known = bytes_before_block(&file, block);
     say(text, "; block %" PRIu64 " of %" PRIu64 ", from image byte %" PRIu64, block,
         field(c->image.at, FIELD_BLOCK_COUNT), (uint64_t)(file.at - c->image.at) + (block - 1) * file.block_size);
-    say(text, "; %" PRIu64 " bytes of the file's %" PRIu64 " are proved", file.known, file.length);
+    say(text, "; proved file bytes: %" PRIu64 " of %" PRIu64, file.known, file.length);
     say_command_reached(text, &file);
 }
 
@@ -127,9 +127,9 @@ static void say_file(struct text *text, const struct call *c)
     uint8_t first[8];
     size_t length = file.length < sizeof first ? file.length : sizeof first;
     copy_from(&file, 0, first, length);
-    say(text, "; the file has %" PRIu64 " bytes", file.length);
+    say(text, "; file length %" PRIu64, file.length);
     for (size_t i = 0; i < length; i++)
-        say(text, "%s%02x", i ? " " : " and begins with ", first[i]);
+        say(text, "%s%02x", i ? " " : "; it begins with ", first[i]);
 }
 
 /* What a check that failed found in the table. */
@@ -138,7 +138,7 @@ static void say_found(struct text *text, const struct call *c, const struct comm
     const uint8_t *at = command->parameters;
     const uint8_t *results = table_results(c->board.table, little(at + 4, 4), little(at, 4));
     if (c->answer.code == RUNNELPIN_CHECK_FAILED && results)
-        say(text, "; the register is 0x%" PRIx64, little(results + 4 * at[16], 4));
+        say(text, "; the register holds 0x%" PRIx64, little(results + 4 * at[16], 4));
 }
 
 /* Whether the code is given for a command's header alone, before the parameters behind it are looked at. */
@@ -153,7 +153,7 @@ static void say_refused_command(struct text *text, const struct call *c)
     uint64_t place = c->answer.place;
     say(text, "; file offset %" PRIu64 ": ", place);
     if (file.length - place < COMMAND_HEADER) {
-        say(text, "%" PRIu64 " bytes are left, where a command begins with %d", file.length - place, COMMAND_HEADER);
+        say(text, "only %" PRIu64 " of the %d bytes that a command begins with", file.length - place, COMMAND_HEADER);
         return;
     }
     /* What was judged is proved, and only that may be shown. */
@@ -203,7 +203,7 @@ static void say_place(struct text *text, const struct call *c, enum place_kind k
         say_refused_command(text, c);
         break;
     case FILE_LENGTH:
-        say(text, "; file offset %" PRIu64 ": the end", c->answer.place);
+        say(text, "; file length %" PRIu64, c->answer.place);
         break;
     }
 }
@@ -212,11 +212,13 @@ void say_refusal(struct text *text, const struct call *c)
 {
     const struct code *code = code_of(c->answer.code);
     if (!code) {
-        say(text, "refused: %" PRIu64 ", which this tool has no words for", c->answer.code);
+        say(text, "refused: %" PRIu64 ", a code that this tool does not know", c->answer.code);
         return;
     }
     say(text, "refused: %" PRIu64 ", %s: %s", c->answer.code, code->name, code->meaning);
     say_place(text, c, code->place_kind);
+    if (c->answer.code == RUNNELPIN_CPUID_MISSING)
+        say(text, "; give a table with --cpuid");
     if (c->board.map.length && code->effect == MAY_CHANGE)
         say(text, "; commands done %" PRIu64 ", bytes stored %" PRIu64 ", entry 0", c->answer.commands,
             c->answer.stored);

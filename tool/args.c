@@ -1,6 +1,7 @@
 #include "args.h"
 
 #include "fail.h"
+#include "image.h"
 #include "numbers.h"
 
 #include <stdio.h>
@@ -10,16 +11,17 @@
 static const struct {
     const char *name, *value, *meaning; /* no value: the option stands alone */
 } options[OPTIONS] = {
-    [OPTION_OUTPUT] = {"-o", "FILE", "where the result goes"},
+    [OPTION_OUTPUT] = {"-o", "FILE", "the file to write the result to"},
     [OPTION_HEADER] = {"--header", "FILE", "the approved header"},
     [OPTION_MAP] = {"--map", "FILE", "the memory map: lines of base and length"},
-    [OPTION_CPUID] = {"--cpuid", "FILE", "the CPUID table: lines of six numbers; 'host' for this machine's (none)"},
-    [OPTION_MODE] = {"--mode", "32|64", "the addressing mode (64)"},
-    [OPTION_MEMORY] = {"--memory", "FILE", "what memory holds before (zeros)"},
-    [OPTION_HASH] = {"--hash", "NAMES", "up to four of sha256, sha384, sha512 and none, with commas (sha512)"},
-    [OPTION_BLOCK] = {"--block", "BYTES", "the block size (65536)"},
-    [OPTION_SIGNATURE] = {"--signature", "BYTES", "the signature length (pack: 512; else the header's own)"},
-    [OPTION_PARTIAL] = {"--partial", NULL, "also on a refusal, write what was proved or stored"},
+    [OPTION_CPUID] = {"--cpuid", "FILE",
+                      "the CPUID table: lines of six numbers, or 'host' for this machine's (default: none)"},
+    [OPTION_MODE] = {"--mode", "32|64", "the addressing mode (default: 64)"},
+    [OPTION_MEMORY] = {"--memory", "FILE", "what memory holds at first (default: zeros)"},
+    [OPTION_HASH] = {"--hash", "NAMES", "up to four of " HASH_NAMES ", separated by commas (default: sha512)"},
+    [OPTION_BLOCK] = {"--block", "BYTES", "the block size (default: 65536)"},
+    [OPTION_SIGNATURE] = {"--signature", "BYTES", "the signature length (default: pack 512, else the header's)"},
+    [OPTION_PARTIAL] = {"--partial", NULL, "on a refusal, write what was proved or stored before it"},
     [OPTION_JSON] = {"--json", NULL, "answer in JSON"},
 };
 
@@ -52,7 +54,7 @@ static const struct job *job_named(const char *name, const struct job *jobs, siz
     for (size_t j = 0; j < count; j++)
         if (!strcmp(jobs[j].name, name))
             return &jobs[j];
-    fail("no such subcommand: %s (runnelpin --help lists them)", name);
+    fail("unknown subcommand: %s (runnelpin --help lists them)", name);
 }
 
 static enum option option_named(const char *name, const struct job *job)
@@ -60,7 +62,7 @@ static enum option option_named(const char *name, const struct job *job)
     for (int o = 0; o < OPTIONS; o++)
         if (!strcmp(options[o].name, name) && (job->needs | job->may) >> o & 1)
             return (enum option)o;
-    fail("%s: no such option: %s", job->name, name);
+    fail("%s: unknown option: %s (runnelpin --help lists them)", job->name, name);
 }
 
 /* Takes the word, and the one behind it where it belongs to an option; gives the next. */
@@ -69,7 +71,7 @@ static char **read_word(struct request *request, char **words)
     const char *name = request->job->name;
     if ((*words)[0] != '-' || !(*words)[1]) {
         if (request->operand)
-            fail("%s: one %s is wanted: %s is one too many", name, request->job->operand, *words);
+            fail("%s: only one %s can be given: %s is one too many", name, request->job->operand, *words);
         request->operand = *words;
         return words + 1;
     }
@@ -77,7 +79,7 @@ static char **read_word(struct request *request, char **words)
     if (request->value[o])
         fail("%s: %s is given twice", name, *words);
     if (options[o].value && !words[1])
-        fail("%s: %s wants a value: %s", name, *words, options[o].value);
+        fail("%s: %s needs a value: %s", name, *words, options[o].value);
     request->value[o] = options[o].value ? words[1] : "";
     return words + (options[o].value ? 2 : 1);
 }
@@ -92,15 +94,15 @@ struct request read_request(char **words, const struct job *jobs, size_t count)
         }
     }
     if (!*words)
-        fail("a subcommand is wanted (runnelpin --help lists them)");
+        fail("the subcommand is missing (runnelpin --help lists them)");
     request.job = job_named(*words++, jobs, count);
     while (*words)
         words = read_word(&request, words);
     if (!request.operand)
-        fail("%s: %s is wanted", request.job->name, request.job->operand);
+        fail("%s: %s is missing", request.job->name, request.job->operand);
     for (int o = 0; o < OPTIONS; o++)
         if (request.job->needs >> o & 1 && !request.value[o])
-            fail("%s: %s is wanted", request.job->name, options[o].name);
+            fail("%s: %s %s is missing", request.job->name, options[o].name, options[o].value);
     return request;
 }
 
@@ -109,6 +111,6 @@ uint64_t option_number(const struct request *request, enum option option, uint64
     const char *text = request->value[option];
     uint64_t value = otherwise;
     if (text && !read_number(text, strlen(text), UINT64_MAX, &value))
-        fail("%s: %s is not a number of 64 bits (decimal, or hexadecimal behind 0x)", options[option].name, text);
+        fail("%s: %s is not a 64-bit number (decimal, or hexadecimal after 0x)", options[option].name, text);
     return value;
 }

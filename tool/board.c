@@ -11,9 +11,9 @@ static const char *region_fault(uint64_t base, uint64_t length, uint64_t end)
     if (!length)
         return "has length 0";
     if (base < end)
-        return "begins below the end of the one before";
+        return "begins before the previous one ends";
     if (base > MOST_END || length > MOST_END - base)
-        return "ends over 2^52";
+        return "ends above 2^52";
     return NULL;
 }
 
@@ -22,7 +22,7 @@ uint64_t map_total(struct bytes map, struct text *fault)
     size_t regions = map.length / REGION_BYTES;
     uint64_t end = 0, total = 0;
     if (regions < 1 || regions > MOST_REGIONS) {
-        say(fault, "it has %zu regions, where 1 to %d are allowed", regions, MOST_REGIONS);
+        say(fault, "it has %zu regions, and 1 to %d are allowed", regions, MOST_REGIONS);
         return 0;
     }
     for (size_t i = 0; i < regions; i++) {
@@ -36,7 +36,7 @@ uint64_t map_total(struct bytes map, struct text *fault)
         total += length;
     }
     if (total > MOST_MEMORY)
-        say(fault, "its regions have %" PRIu64 " bytes together, over 2^32", total);
+        say(fault, "its regions have %" PRIu64 " bytes in all, over 2^32", total);
     return total > MOST_MEMORY ? 0 : total;
 }
 
@@ -51,11 +51,11 @@ void say_table_fault(struct text *fault, struct bytes table)
 {
     size_t records = table.length / RECORD_BYTES;
     if (records > MOST_RECORDS)
-        say(fault, "it has %zu records, where %d are allowed", records, MOST_RECORDS);
+        say(fault, "it has %zu records, and at most %d are allowed", records, MOST_RECORDS);
     for (size_t i = 1; i < records && records <= MOST_RECORDS; i++) {
         if (inputs(table, i - 1) < inputs(table, i))
             continue;
-        say(fault, "record %zu, EAX 0x%" PRIx64 " ECX 0x%" PRIx64 ", is not above the one before", i + 1,
+        say(fault, "record %zu, EAX 0x%" PRIx64 " ECX 0x%" PRIx64 ", must be above the one before", i + 1,
             inputs(table, i) >> 32, inputs(table, i) & UINT32_MAX);
         return;
     }

@@ -17,7 +17,7 @@ void *allocate(void *old, size_t length)
 {
     void *at = realloc(old, length ? length : 1);
     if (!at)
-        fail("no memory for %zu bytes", length);
+        fail("out of memory: can't get %zu bytes", length);
     return at;
 }
 
@@ -28,7 +28,7 @@ struct bytes zeros(uint64_t length)
         return none;
     void *at = mmap(NULL, length, PROT_READ | PROT_WRITE, MAP_PRIVATE | MAP_ANONYMOUS | MAP_NORESERVE, -1, 0);
     if (at == MAP_FAILED)
-        fail("no memory for %" PRIu64 " bytes", length);
+        fail("out of memory: can't get %" PRIu64 " bytes", length);
     struct bytes made = {at, length};
     return made;
 }

@@ -93,8 +93,13 @@ static void say_check(struct text *text, const struct command *c)
         say(text, "%s", registers[at[16]]);
     else
         say(text, "register %u", at[16]);
-    say(text, " and 0x%" PRIx64 " = 0x%" PRIx64 ", ", little(at + 12, 4), little(at + 8, 4));
+    say(text, " & 0x%" PRIx64 " = 0x%" PRIx64 ", ", little(at + 12, 4), little(at + 8, 4));
     say_quoted(text, at + 24, zero ? (size_t)(zero - at - 24) : 64);
+}
+
+static void say_bytes(struct text *text, uint64_t count)
+{
+    say(text, "%" PRIu64 " byte%s", count, count == 1 ? "" : "s");
 }
 
 void say_command(struct text *text, const struct command *c)
@@ -102,12 +107,16 @@ void say_command(struct text *text, const struct command *c)
     say(text, "%s", c->name ? c->name : "command");
     if (!c->name || c->id > COMMAND_CHECK)
         say(text, " %" PRIu64, c->id);
-    if (c->has_check)
+    if (c->has_check) {
         say_check(text, c);
-    else if (c->has_count)
-        say(text, " of %" PRIu64 " bytes", c->count);
-    else if (!c->has_address)
-        say(text, " with %" PRIu64 " bytes of data", c->length);
+    } else if (c->has_count) {
+        say(text, " of ");
+        say_bytes(text, c->count);
+    } else if (!c->has_address) {
+        say(text, " with ");
+        say_bytes(text, c->length);
+        say(text, " of data");
+    }
     if (c->id == COMMAND_FILL && c->has_count)
         say(text, " of 0x%02x", c->parameters[16]);
     if (c->has_address)

@@ -106,7 +106,7 @@ static void replace(const char *path, const char *target, struct bytes content, 
     unfinished = beside.at;
     int file = mkstemp(beside.at);
     if (file < 0)
-        fail("%s: can't make a file beside it: %s", path, strerror(errno));
+        fail("%s: can't create a file beside it: %s", path, strerror(errno));
     if (put(file, content, 1) || fchmod(file, mode) || fsync(file) || close(file) || rename(beside.at, target)) {
         int reason = errno;
         unlink(beside.at);

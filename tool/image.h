@@ -16,6 +16,9 @@ extern const char *const field_names[FIELDS];
 
 void say_field_name(struct text *text, enum field which);
 
+/* The hashes by name, for people. */
+#define HASH_NAMES "sha256, sha384, sha512 and none"
+
 /* A hash that the library has: its name, its ID and the length of its digest. */
 struct hash {
     const char *name;

@@ -29,7 +29,7 @@ static void bad_number(const struct place *place, const char *word, size_t lengt
 {
     struct text quoted = {NULL, 0};
     say_quoted(&quoted, (const uint8_t *)word, length < 24 ? length : 24);
-    fail("%s: line %zu: %s is not a number of %zu bits (decimal, or hexadecimal behind 0x)", place->path, place->line,
+    fail("%s: line %zu: %s is not a %zu-bit number (decimal, or hexadecimal after 0x)", place->path, place->line,
          quoted.at, 8 * width);
 }
 
@@ -56,7 +56,7 @@ static void read_line(struct bytes *list, const char *line, size_t length, const
         }
     }
     if (count && count != form->numbers)
-        fail("%s: line %zu: %zu number%s, where %s is %zu: %s", place->path, place->line, count, count == 1 ? "" : "s",
+        fail("%s: line %zu: %zu number%s, but %s has %zu: %s", place->path, place->line, count, count == 1 ? "" : "s",
              form->name, form->numbers, form->line);
 }
 
@@ -64,7 +64,7 @@ static struct bytes read_list(const char *path, const struct form *form)
 {
     struct bytes text = read_file(path, MOST_TEXT);
     if (text.length > MOST_TEXT)
-        fail("%s: over %d bytes; lines of '%s' are wanted here", path, MOST_TEXT, form->line);
+        fail("%s: over %d bytes; this should be a text file with lines of '%s'", path, MOST_TEXT, form->line);
     size_t lines = 1;
     for (size_t i = 0; i < text.length; i++)
         lines += text.at[i] == '\n';

@@ -3,7 +3,6 @@
 #include "image.h"
 #include "jobs.h"
 #include "report.h"
-#include "runnelpin.h"
 
 #include <inttypes.h>
 #include <string.h>
@@ -26,7 +25,7 @@ static void read_hashes(const char *names, uint64_t *ids)
             return;
         name += length + 1;
     }
-    fail("--hash %s: up to four of none, sha256, sha384 and sha512 are wanted, with commas", names);
+    fail("--hash %s: give up to four of " HASH_NAMES ", separated by commas", names);
 }
 
 static uint64_t pack_into(const struct packing *p, struct bytes image)
@@ -65,7 +64,8 @@ int job_pack(const struct request *request)
         write_file(request->value[OPTION_OUTPUT], image);
         say(&r.words, "done: an image of %zu bytes, block count %" PRIu64 ", block size %" PRIu64 ", padding %" PRIu64,
             image.length, field(image.at, FIELD_BLOCK_COUNT), p.block_size, field(image.at, FIELD_PADDING));
-        say(note(&r), "the signature field, %" PRIu64 " bytes, is zero", p.signature_length);
+        say(note(&r), "the image is not signed yet: its %" PRIu64 "-byte signature field is all zeros",
+            p.signature_length);
     }
     return finish(&r);
 }

@@ -178,7 +178,7 @@ int job_show(const struct request *request)
         list_kind("command file", r.call.image);
         list_commands(&r, &file);
         if (r.call.answer.code == RUNNELPIN_FILE_MAGIC)
-            say(note(&r), "nor is it an image, which begins with 98 95 01 e6");
+            say(note(&r), "it is not an image either; images begin with 98 95 01 e6");
     }
     return finish(&r);
 }

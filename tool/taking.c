@@ -6,14 +6,14 @@
 
 #include <inttypes.h>
 
-const char not_approved[] = "nothing has approved this header";
+const char not_approved[] = "this header has not been approved";
 
 static void take_signature_length(struct report *r)
 {
     uint64_t own = stated_signature_length(r->call.header.at, r->call.header.length);
     r->call.signature_length = option_number(r->request, OPTION_SIGNATURE, own);
     if (!r->request->value[OPTION_SIGNATURE] && r->call.header.length >= LEAST_HEADER)
-        say(note(r), "the signature length expected is the header's own, %" PRIu64, own);
+        say(note(r), "the expected signature length is taken from the header: %" PRIu64, own);
 }
 
 void take_image(struct report *r)
@@ -40,5 +40,5 @@ void give_output(struct report *r, struct bytes output)
         return;
     write_file(path, output);
     if (r->call.answer.code)
-        say(note(r), "%s is written as far as it came: %zu bytes", path, output.length);
+        say(note(r), "%s has what was proved or stored before the refusal: %zu bytes", path, output.length);
 }

@@ -31,29 +31,32 @@ fn bad(desk: &Desk, words: &str, status: i32, part: &str) {
 fn usage() {
     let desk = sample::desk();
     for (words, part) in [
-        ("", "a subcommand is wanted"),
-        ("unpack file", "no such subcommand: unpack"),
-        ("pack", "pack: FILE is wanted"),
-        ("pack file", "pack: -o is wanted"),
-        ("pack file -o", "-o wants a value"),
+        ("", "the subcommand is missing"),
+        ("unpack file", "unknown subcommand: unpack"),
+        ("pack", "pack: FILE is missing"),
+        ("pack file", "pack: -o FILE is missing"),
+        ("pack file -o", "-o needs a value: FILE"),
         ("pack file file -o out", "file is one too many"),
         ("pack file -o out -o out", "-o is given twice"),
-        ("pack file -o out --mode 64", "no such option: --mode"),
-        ("pack file -o out --block=96", "no such option: --block=96"),
+        ("pack file -o out --mode 64", "unknown option: --mode"),
+        ("pack file -o out --block=96", "unknown option: --block=96"),
         ("pack file -o out --hash md5", "--hash md5: "),
         ("pack file -o out --hash sha256,", "--hash sha256,: "),
         (
             "pack file -o out --hash none,none,none,none,none",
             "up to four",
         ),
-        ("open image -o out", "open: --header is wanted"),
-        ("load image --header header", "load: --map is wanted"),
-        ("load image --map map", "load: --header is wanted"),
-        ("run file", "run: --map is wanted"),
-        ("header image", "header: -o is wanted"),
-        ("signature image -o out", "signature: --header is wanted"),
-        ("show", "show: IMAGE|FILE is wanted"),
-        ("show -x", "no such option: -x"),
+        ("open image -o out", "open: --header FILE is missing"),
+        ("load image --header header", "load: --map FILE is missing"),
+        ("load image --map map", "load: --header FILE is missing"),
+        ("run file", "run: --map FILE is missing"),
+        ("header image", "header: -o FILE is missing"),
+        (
+            "signature image -o out",
+            "signature: --header FILE is missing",
+        ),
+        ("show", "show: IMAGE|FILE is missing"),
+        ("show -x", "unknown option: -x"),
     ] {
         bad(&desk, words, USAGE, part);
     }
@@ -78,7 +81,7 @@ fn numbers() {
         "0xg",
         "1,000",
     ] {
-        let part = format!("{number} is not a number of 64 bits");
+        let part = format!("{number} is not a 64-bit number");
         bad(
             &desk,
             &format!("pack file -o out --block {number}"),
@@ -91,7 +94,7 @@ fn numbers() {
             USAGE,
             &part,
         );
-        let part = format!("line 2: \"{number}\" is not a number of 64 bits");
+        let part = format!("line 2: \"{number}\" is not a 64-bit number");
         desk.put("list", format!("0x1000 4096\n{number} 1\n"));
         bad(&desk, "run file --map list -o out", USAGE, &part);
     }
@@ -107,9 +110,9 @@ fn lists() {
     for (text, part) in [
         (
             "0x1000 4096 1\n",
-            "line 1: 3 numbers, where a region is 2: base length",
+            "line 1: 3 numbers, but a region has 2: base length",
         ),
-        ("# map\n\n0x1000\n", "line 3: 1 number, where a region is 2"),
+        ("# map\n\n0x1000\n", "line 3: 1 number, but a region has 2"),
         ("0x1000 # 4096\n", "line 1: 1 number,"),
         ("0x1000 4096 4096 4096 4096", "line 1: 5 numbers,"),
         ("0x1000 4096\n\0 1\n", "line 2: \"\\x00\" is not"),
@@ -120,14 +123,11 @@ fn lists() {
         bad(&desk, "run file --map list -o out", USAGE, part);
     }
     for (text, part) in [
-        (
-            "1 2 3 4 5\n",
-            "line 1: 5 numbers, where a CPUID record is 6",
-        ),
+        ("1 2 3 4 5\n", "line 1: 5 numbers, but a CPUID record has 6"),
         ("1 2 3 4 5 6 7\n", "line 1: 7 numbers"),
         (
             "1 2 3 4 5 0x100000000\n",
-            "\"0x100000000\" is not a number of 32 bits",
+            "\"0x100000000\" is not a 32-bit number",
         ),
     ] {
         desk.put("list", text);
@@ -204,8 +204,9 @@ fn headers_of_one_byte_and_images_cut_short() {
     let desk = sample::desk();
     let image = desk.get("image");
     desk.put("one", &image[..1]);
-    let part = "refused: 4, approved header: under 36 bytes, or the image doesn't begin with it; \
-                the header has 1 bytes";
+    let part =
+        "refused: 4, approved header: it is shorter than 36 bytes, or the image does not begin \
+                with it; approved header length 1; image length ";
     for words in [
         "open image --header one -o out",
         "signature image --header one -o out",
@@ -216,7 +217,11 @@ fn headers_of_one_byte_and_images_cut_short() {
     bad(&desk, "header one -o out", REFUSED, "refused: 4, ");
     bad(&desk, "show one", REFUSED, "refused: 16, ");
     desk.put("cut", &image[..image.len() - 1]);
-    let part = format!("the image has {} bytes of {}", image.len() - 1, image.len());
+    let part = format!(
+        "; image length {} instead of {}",
+        image.len() - 1,
+        image.len()
+    );
     for words in [
         "open cut --header header -o out --partial",
         "header cut -o out",
@@ -238,7 +243,7 @@ fn outputs_that_cant_be_made() {
         ("link", "can't be written: No such file or directory"),
         (
             "nothing/out",
-            "can't make a file beside it: No such file or directory",
+            "can't create a file beside it: No such file or directory",
         ),
         ("file/out", "can't be written: Not a directory"),
         ("/dev/full", "can't be written: No space left on device"),
@@ -311,7 +316,7 @@ fn no_permission() {
     );
     denied(
         "header image -o new",
-        "new: can't make a file beside it: Permission denied",
+        "new: can't create a file beside it: Permission denied",
     );
     denied(
         "header image -o open/fixed",

@@ -7,8 +7,8 @@ use std::time::{Duration, Instant};
 use std::{fs, thread};
 use tool::sample::{self, block_start, BLOCK, HEADER, SIGNATURE};
 
-const OWN: &str = "the signature length expected is the header's own";
-const NOT_APPROVED: &str = "nothing has approved this header";
+const OWN: &str = "the expected signature length is taken from the header";
+const NOT_APPROVED: &str = "this header has not been approved";
 
 fn packed(file: &[u8], ids: [u64; 4], block: u64, signature: u64) -> Vec<u8> {
     let sizes = sbs::Packing::judge(file.len(), ids, block, signature).unwrap();
@@ -36,7 +36,7 @@ fn open_gives_the_file_again() {
     let said = desk.run("open image --header header -o opened");
     assert_eq!(said.status, 0);
     assert_eq!(desk.get("opened"), desk.get("file"));
-    assert!(said.out.contains(&format!("{OWN}, {SIGNATURE}")));
+    assert!(said.out.contains(&format!("{OWN}: {SIGNATURE}\n")));
     let said = desk.run("open image --header header --signature 8 -o opened");
     assert!(said.status == 0 && !said.out.contains(OWN));
     let said = desk.run("open image --header header --signature 9 -o other");
@@ -165,9 +165,9 @@ fn on_a_refusal_only_partial_writes() {
         (said.status, desk.get("out")),
         (1, desk.get("file")[..proved].to_vec())
     );
-    assert!(said
-        .out
-        .contains(&format!("out is written as far as it came: {proved} bytes")));
+    assert!(said.out.contains(&format!(
+        "out has what was proved or stored before the refusal: {proved} bytes"
+    )));
     let said = desk.run(&format!("{load} --partial"));
     assert_eq!(
         (said.status, &desk.get("out")[0xff0..0x1000]),
@@ -176,6 +176,9 @@ fn on_a_refusal_only_partial_writes() {
     fs::remove_file(desk.path("out")).unwrap();
     let said = desk.run(&format!("{open} --partial --signature 9"));
     assert!(said.status == 1 && !desk.has("out"), "nothing is proved");
+    let said = desk.run("run header --map map -o out --partial");
+    assert!(said.out.starts_with("refused: 16, "), "{said:?}");
+    assert!(said.status == 1 && !desk.has("out"), "nothing is stored");
 }
 
 #[test]

@@ -45,7 +45,7 @@ fn a_sound_image() {
         [count, count, count, length, length]
     );
     let all = format!("the file is good up to byte {length} of {length}");
-    assert_eq!(notes(&json), [&all, "nothing has approved this header"]);
+    assert_eq!(notes(&json), [&all, "this header has not been approved"]);
 }
 
 #[test]
@@ -128,7 +128,7 @@ fn every_byte_changed() {
         let json = said.json();
         let is_free = (30..32).contains(&at) || (HEADER..HEADER + SIGNATURE).contains(&at);
         assert_eq!(said.status, i32::from(!is_free), "byte {at}: {said:?}");
-        assert!(notes(&json).contains(&"nothing has approved this header"));
+        assert!(notes(&json).contains(&"this header has not been approved"));
         if at >= HEADER + SIGNATURE {
             let block = (at - HEADER - SIGNATURE) / BLOCK;
             let known = (block * DATA).saturating_sub(padding) as u64;
@@ -237,7 +237,7 @@ fn an_image_of_no_commands_and_what_is_no_image() {
         desk.put("other", bytes);
         let said = desk.run("show other");
         assert_eq!(said.status, 1);
-        assert!(said.out.contains("nor is it an image"), "{said:?}");
+        assert!(said.out.contains("it is not an image either"), "{said:?}");
     }
 }
 

@@ -59,7 +59,7 @@ fn arguments(met: &mut BTreeSet<u64>) {
     );
     let large = fs::File::create(desk.path("large")).unwrap();
     large.set_len((1 << 30) + 1).unwrap();
-    let parts = ["refused: 1, ", "; it is over 2^30 bytes"];
+    let parts = ["refused: 1, ", "; the input is over 2^30 bytes"];
     for words in [
         "load large --header header --map map",
         "run large --map map",
@@ -73,28 +73,28 @@ fn arguments(met: &mut BTreeSet<u64>) {
     large.set_len((1 << 32) + 5).unwrap();
     let parts = [
         "refused: 2, ",
-        "; memory has over 2^32 bytes, the regions 12288",
+        "; memory has over 2^32 bytes, but the regions have 12288",
     ];
     refused(&desk, met, "run file --map map --memory large", &parts);
     for (map, part) in [
-        ("", "it has 0 regions, where 1 to 16 are allowed"),
-        ("0 1\n", "memory has 3 bytes, the regions 1"),
+        ("", "it has 0 regions, and 1 to 16 are allowed"),
+        ("0 1\n", "memory has 3 bytes, but the regions have 1"),
         ("0 1\n5 0\n", "region 2, 0x5 0x0, has length 0"),
         (
             "0 2\n1 1\n",
-            "region 2, 0x1 0x1, begins below the end of the one before",
+            "region 2, 0x1 0x1, begins before the previous one ends",
         ),
         (
             "0xfffffffffffff 2",
-            "region 1, 0xfffffffffffff 0x2, ends over 2^52",
+            "region 1, 0xfffffffffffff 0x2, ends above 2^52",
         ),
         (
             "0xffffffffffffffff 2",
-            "region 1, 0xffffffffffffffff 0x2, ends over 2^52",
+            "region 1, 0xffffffffffffffff 0x2, ends above 2^52",
         ),
         (
             "0 0x100000000\n0x100000000 1\n",
-            "4294967297 bytes together, over 2^32",
+            "4294967297 bytes in all, over 2^32",
         ),
     ] {
         desk.put("list", map);
@@ -104,7 +104,7 @@ fn arguments(met: &mut BTreeSet<u64>) {
     }
     desk.put("list", "1 0 0 0 0 0\n1 0 0 0 0 0\n");
     let words = "run file --map map --cpuid list";
-    let part = "record 2, EAX 0x1 ECX 0x0, is not above the one before";
+    let part = "record 2, EAX 0x1 ECX 0x0, must be above the one before";
     refused(&desk, met, words, &["refused: 3, CPUID table: ", part]);
     desk.put(
         "list",
@@ -116,7 +116,10 @@ fn arguments(met: &mut BTreeSet<u64>) {
         &desk,
         met,
         words,
-        &["refused: 3, ", "it has 65 records, where 64 are allowed"],
+        &[
+            "refused: 3, ",
+            "it has 65 records, and at most 64 are allowed",
+        ],
     );
 }
 
@@ -150,7 +153,10 @@ fn header_fields(met: &mut BTreeSet<u64>) {
         (
             field::SIGNATURE,
             9,
-            ["refused: 10, signature length: ", "; expected are 8"],
+            [
+                "refused: 10, signature length: ",
+                "; signature length 9; expected 8",
+            ],
         ),
         (
             field::PADDING,
@@ -160,7 +166,10 @@ fn header_fields(met: &mut BTreeSet<u64>) {
         (
             field::COUNT,
             9,
-            ["refused: 12, image length: ", "; block count 9"],
+            [
+                "refused: 12, image length: ",
+                "; block count 9; block size 96; signature length 8; header size 68; image length 460 instead of 940",
+            ],
         ),
     ] {
         let desk = sample::desk();
@@ -204,8 +213,10 @@ fn blocks(met: &mut BTreeSet<u64>) {
     image[block_start(3) + 1] ^= 1;
     desk.put("image", image);
     let block = format!("block 3 of {count}, from image byte {}", block_start(3));
-    let proved = format!("; {} bytes of the file's", 128 - padding);
-    let command = "; command 3 at file offset 88 is cut there: CPUID check with 88 bytes of data";
+    let length = desk.get("file").len();
+    let proved = format!("; proved file bytes: {} of {length}; ", 128 - padding);
+    let command =
+        "; command 3, at file offset 88, is cut off there: CPUID check with 88 bytes of data";
     let done = "; commands done 2, bytes stored 316, entry 0";
     let words = "load image --header header --map map --cpuid table";
     let parts = [
@@ -217,12 +228,13 @@ fn blocks(met: &mut BTreeSet<u64>) {
     ];
     refused(&desk, met, words, &parts);
     refused(&desk, met, "open image --header header -o out", &parts[..4]);
+    let none = format!("; proved file bytes: 0 of {length}");
     let parts = [
-        "refused: 14, block padding: not zero; block 1 of ",
-        "; 0 bytes of the file's",
+        "refused: 14, block padding: it is not all zeros; block 1 of ",
+        &none,
     ];
     refused(&changed(block_start(1) + 32), met, words, &parts);
-    let parts = ["refused: 15, last block: its hash field is not zero; block 4 of 4, "];
+    let parts = ["refused: 15, last block: its hash field is not all zeros; block 4 of 4, "];
     refused(&changed(block_start(count as usize)), met, words, &parts);
 }
 
@@ -232,7 +244,7 @@ fn commands(met: &mut BTreeSet<u64>) {
         File(vec![1, 2, 3]),
         &[
             "refused: 16, file magic: ",
-            "has 3 bytes and begins with 01 02 03",
+            "; file length 3; it begins with 01 02 03",
         ],
     );
     run(
@@ -240,7 +252,7 @@ fn commands(met: &mut BTreeSet<u64>) {
         File(vec![0xab; 9]),
         &[
             "refused: 16, ",
-            "has 9 bytes and begins with ab ab ab ab ab ab ab ab\n",
+            "; file length 9; it begins with ab ab ab ab ab ab ab ab\n",
         ],
     );
     let mut short = File::new().entry(1);
@@ -249,8 +261,8 @@ fn commands(met: &mut BTreeSet<u64>) {
         met,
         short,
         &[
-            "refused: 17, command cut: ",
-            "; file offset 32: 5 bytes are left, where",
+            "refused: 17, command cut off: ",
+            "; file offset 32: only 5 of the 16 bytes that a command begins with;",
         ],
     );
     let parts = [
@@ -268,7 +280,7 @@ fn commands(met: &mut BTreeSet<u64>) {
         &["refused: 17, ", "8: write of 92 bytes; commands"],
     );
     let parts = [
-        "refused: 18, command unknown: ",
+        "refused: 18, unknown command: ",
         "; file offset 8: command 4 with 9 bytes of data;",
     ];
     run(met, File::new().command(4, &[0; 9]), &parts);
@@ -305,9 +317,14 @@ fn commands(met: &mut BTreeSet<u64>) {
         "; commands done 1, bytes stored 16, entry 0",
     ];
     run(met, file, &parts);
+    run(
+        met,
+        File::new().fill(0x900000, 1, 0),
+        &["refused: 21, ", ": fill of 1 byte of 0x00 at 0x900000;"],
+    );
     let parts = [
         "refused: 27, no entry: ",
-        "; file offset 8: the end; commands done 0",
+        "; file length 8; commands done 0",
     ];
     run(met, File::new(), &parts);
 }
@@ -315,30 +332,33 @@ fn commands(met: &mut BTreeSet<u64>) {
 fn checks(met: &mut BTreeSet<u64>) {
     let check = |words, register, zero| File::new().check(words, register, zero).entry(0);
     let text = "\\xff\\xff\\xff";
-    let all = "; file offset 8: CPUID check of EAX 0x1, ECX 0x2: EAX and 0x30 = 0x30, \"";
+    let all = "; file offset 8: CPUID check of EAX 0x1, ECX 0x2: EAX & 0x30 = 0x30, \"";
     run(
         met,
         check([2, 1, 0x30, 0x30], 0, None),
         &["refused: 22, check text: ", all, text],
     );
     let parts = [
-        "refused: 24, check register: over 3; ",
-        ": register 4 and 0x30 = 0x30, \"\"",
+        "refused: 24, check register: the number must be 0 to 3, for EAX, EBX, ECX or EDX; ",
+        ": register 4 & 0x30 = 0x30, \"\"",
     ];
     run(met, check([2, 1, 0x30, 0x30], 4, Some(0)), &parts);
     let parts = [
         "refused: 25, no CPUID record: ",
-        "CPUID check of EAX 0x2, ECX 0x2: EDX and 0x0 = 0x0",
+        "CPUID check of EAX 0x2, ECX 0x2: EDX & 0x0 = 0x0",
     ];
     run(met, check([2, 2, 0, 0], 3, Some(3)), &parts);
     let parts = [
-        "refused: 26, CPUID check: it failed; ",
-        "= 0xf0, \"\\xff\"; the register is 0xf0",
+        "refused: 26, CPUID check failed: ",
+        "= 0xf0, \"\\xff\"; the register holds 0xf0",
     ];
     run(met, check([2, 1, 0xf0, 0x30], 0, Some(1)), &parts);
     let desk = sample::desk();
-    let parts =
-        ["refused: 23, no CPUID: a check, and there is no table; file offset 88: CPUID check"];
+    let parts = [
+        "refused: 23, no CPUID table: ",
+        "; file offset 88: CPUID check",
+        "; give a table with --cpuid; ",
+    ];
     refused(&desk, met, "run file --map map", &parts);
 }
 
