@@ -21,6 +21,15 @@ void say_handed(const struct handed *handed, struct slice header)
     say(" bytes\n");
 }
 
+/* How much more was left out, and from which address or leaf on. */
+static void say_more(uint64_t count, const char *what, uint64_t from)
+{
+    say("; ");
+    say_number(count);
+    say(what);
+    say_address(from);
+}
+
 static void say_left_out(const struct regions *regions, struct slice image)
 {
     say("left out: page 0 and incomplete pages; the stub, ");
@@ -28,10 +37,7 @@ static void say_left_out(const struct regions *regions, struct slice image)
     say("; the pages of the image, ");
     say_range(address(image.at), address(image.at + image.length));
     if (regions->left_out) {
-        say("; ");
-        say_number(regions->left_out);
-        say(" bytes of RAM from ");
-        say_address(regions->left_out_from);
+        say_more(regions->left_out, " bytes of RAM from ", regions->left_out_from);
         say(" on");
     }
     say("\n");
@@ -58,10 +64,7 @@ void say_cpuid(const struct cpuid_table *table)
     say_number(table->count);
     say(" records; left out: " CPUID_LEFT_OUT);
     if (table->left_out) {
-        say("; ");
-        say_number(table->left_out);
-        say(" records from leaf ");
-        say_address(table->leaf);
+        say_more(table->left_out, " records from leaf ", table->leaf);
         say(", sub-leaf ");
         say_number(table->sub_leaf);
         say(" on");

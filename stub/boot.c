@@ -5,7 +5,7 @@
 
 struct runnelpin_answer boot_load(const struct unit *unit, struct slice image, struct slice header)
 {
-    static struct runnelpin_answer answer;
+    static struct runnelpin_answer answer; /* off the stack, which may be small */
 
     /* The code is returned too, but only the record says where a refused load stopped. */
     (void)runnelpin_load(image.at, image.length, header.at, header.length, unit->map.at, unit->map.length,
