@@ -37,13 +37,13 @@ static struct slice take(uint32_t magic, uint64_t info)
     struct slice header = approved_header(handed.command_line);
 
     if (number == END_PROTOCOL)
-        refuse(END_PROTOCOL, "the boot loader gave no memory map, by PVH or multiboot2");
+        refuse(END_PROTOCOL, "no memory map: start the stub by PVH or multiboot2");
     if (number)
         refuse(END_RANGES, "the memory map has too many ranges");
     if (!is_mapped(handed.image))
-        refuse(END_MODULE, "no image: it is given as a boot module");
+        refuse(END_MODULE, "no image: give one as a boot module");
     if (!header.length)
-        refuse(END_HEADER, "no approved header: it is given as header=HEX on the command line");
+        refuse(END_HEADER, "no approved header: give header=HEX on the command line");
     say_handed(&handed, header);
     return header;
 }
@@ -59,7 +59,7 @@ static void find_memory(void)
     add_range(&handed.ranges, 0, PAGE, 0);
     add_range(&handed.ranges, begin, length, 0);
     if (!is_all_usable(&handed.ranges, image, handed.image.length))
-        refuse(END_ROOM, "the image is not in RAM of its own");
+        refuse(END_ROOM, "the image is not entirely in free RAM");
     add_range(&handed.ranges, image, handed.image.length, 0);
     if (handed.ranges.overflowed)
         refuse(END_RANGES, "the memory map has too many ranges");

@@ -23,6 +23,6 @@
 #define END_MODULE 53   /* 107: no image as a boot module, or one past the identity mapping */
 #define END_HEADER 54   /* 109: no approved header on the command line, or not in hexadecimal */
 #define END_CODE 55     /* 111: the loader answered with a code that a load does not give */
-#define END_ROOM 56     /* 113: the stub or the image is not in RAM of its own */
+#define END_ROOM 56     /* 113: the stub or the image is not entirely in free RAM */
 
 #endif

@@ -7,7 +7,7 @@
 
 enum { MOST_RECORDS = 64, RECORD_WORDS = 6, RECORD_BYTES = 4 * RECORD_WORDS };
 
-/* What the table has of the leaves that there are. */
+/* What the table never has. */
 #define CPUID_LEFT_OUT "sub-leaves of leaves other than 0x4, 0x7, 0xb and 0xd; leaves from 0x40000000 to 0x7fffffff"
 
 struct cpuid_table {
