@@ -1,4 +1,4 @@
-.PHONY: help demo test prove archives tool stub boot boot-grub bench
+.PHONY: help demo test prove edits archives tool stub boot boot-grub bench
 
 help: ## print this
 	@sed -n 's/^\([a-z-]*\):.*## /make \1: /p' Makefile
@@ -11,6 +11,9 @@ test: ## everything from nothing: proofs, must-fail edits, Rust tests, compariso
 
 prove: ## prove what has changed since it was last proved, and run the Rattle programs
 	@rt check
+
+edits: ## every edit that makes the code wrong, the gate's and edits/; SINCE=REVISION: of the crates changed since
+	@SINCE='$(SINCE)' tools/edits $(EDITS)
 
 archives: build/librunnelpin.a ## build/libNAME.a of each crate that exports calls, for C or Rust to link
 
