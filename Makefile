@@ -42,5 +42,6 @@ boot: tool ## a machine in an emulator, booted by the proved loader from a signe
 boot-grub: tool ## the same from an ISO with GRUB
 	@tools/boot grub
 
-bench: archives ## the library's speed against plain Rust, and OpenSSL where it is
-	@cd tests && cargo run --quiet --release --bin bench
+# An older archive is one whose calls have the same parameters, with its libprobe.a beside it.
+bench: archives ## the library's speed against plain Rust, and OpenSSL where it is; OLD=FOLDER/librunnelpin.a: against that
+	@cd tests && OLD='$(abspath $(OLD))' cargo run --quiet --release -p compare $(if $(OLD),--features old) --bin bench

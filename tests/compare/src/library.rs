@@ -1,7 +1,16 @@
 //! The calls of the archives, one declaration and one safe function each. A slice goes over as a
 //! pointer and a length, NULL where it is empty.
 
+use crate::Calls;
 use std::ptr;
+
+pub const CALLS: Calls = Calls {
+    digest,
+    open,
+    pack,
+    run,
+    load,
+};
 
 #[repr(C)]
 struct Part {

@@ -3,10 +3,15 @@
 const ROUNDS: usize = 9;
 
 pub fn title() {
-    println!("{:<44} {:>10} {:>10} {:>7}", "", "this", "other", "ratio");
+    let [this, other, ratio, lowest, highest] = ["this", "other", "ratio", "lowest", "highest"];
+    println!(
+        "{:<44} {this:>10} {other:>10} {ratio:>7} {lowest:>7} {highest:>7}",
+        ""
+    );
 }
 
-/// Runs the two in turn and prints their median milliseconds and the median of their ratios.
+/// Runs the two in turn and prints their median milliseconds, and of their ratios the median, the
+/// lowest and the highest.
 pub fn race(name: &str, mut this: impl FnMut(), mut other: impl FnMut()) {
     let (mut these, mut others, mut ratios) = (Vec::new(), Vec::new(), Vec::new());
     this();
@@ -17,13 +22,15 @@ pub fn race(name: &str, mut this: impl FnMut(), mut other: impl FnMut()) {
         others.push(b);
         ratios.push(a / b);
     }
-    let (a, b, ratio) = (median(these), median(others), median(ratios));
-    println!("{name:<44} {a:>7.1} ms {b:>7.1} ms {ratio:>7.3}");
+    let [(_, a, _), (_, b, _), (low, ratio, high)] = [these, others, ratios].map(spread);
+    println!("{name:<44} {a:>7.1} ms {b:>7.1} ms {ratio:>7.3} {low:>7.3} {high:>7.3}");
 }
 
-fn median(mut numbers: Vec<f64>) -> f64 {
+/// The lowest, the median and the highest.
+fn spread(mut numbers: Vec<f64>) -> (f64, f64, f64) {
     numbers.sort_by(f64::total_cmp);
-    numbers[numbers.len() / 2]
+    let last = numbers.len() - 1;
+    (numbers[0], numbers[last / 2], numbers[last])
 }
 
 /// The milliseconds of CPU time that this thread spends on a call.

@@ -1,9 +1,11 @@
-//! Speed of the proved library against plain Rust of the same method, and OpenSSL where it is.
+//! Speed of the proved library against plain Rust of the same method, and OpenSSL where it is; or, with
+//! the feature `old`, against an earlier build whose calls have the same parameters.
 
 use compare::timing::{race, spent, title};
-use compare::{library, openssl};
+use compare::{library, old_calls, openssl, Calls};
 use second::cases::{lent::Mapping, run_lines::File};
 use second::{machine, sbs, sha2};
+use std::cell::RefCell;
 use std::hint::black_box;
 
 const MIB_64: usize = 64 << 20;
@@ -17,29 +19,41 @@ fn main() {
     loads();
 }
 
+/// A job of the library against another way to do it, or against the old library where there is one.
+fn row(job: &str, by: impl FnMut(&Calls), other_way: &str, other: impl FnMut()) {
+    let by = RefCell::new(by);
+    let this = || by.borrow_mut()(&library::CALLS);
+    match old_calls() {
+        None => race(&format!("{job}: {other_way}"), this, other),
+        Some(old) => race(job, this, || by.borrow_mut()(&old)),
+    }
+}
+
 fn some_bytes(length: usize) -> Vec<u8> {
     (0..length).map(|i| (i % 251) as u8).collect()
 }
 
 fn hashes() {
     let data = some_bytes(MIB_64);
-    let this = |id| {
+    let digest = |id, calls: &Calls| {
         let mut out = [0; 64];
-        black_box(library::digest(id, black_box(&data), &mut out));
+        black_box((calls.digest)(id, black_box(&data), &mut out));
         black_box(out);
     };
     for (id, name) in [(4, "SHA2-512"), (2, "SHA2-256")] {
-        race(
-            &format!("{name} of 64 MiB: plain Rust"),
-            || this(id),
+        row(
+            &format!("{name} of 64 MiB"),
+            |calls| digest(id, calls),
+            "plain Rust",
             || drop(black_box(sha2::digest(id, black_box(&data)))),
         );
     }
     match openssl::sha512() {
+        _ if old_calls().is_some() => (),
         None => println!("SHA2-512 of 64 MiB: no OpenSSL here"),
         Some(sha512) => race(
             "SHA2-512 of 64 MiB: OpenSSL",
-            || this(4),
+            || digest(4, &library::CALLS),
             || {
                 black_box(sha512(black_box(&data)));
             },
@@ -72,22 +86,24 @@ fn streams() {
     let file = some_bytes(MIB_64 / BLOCK * DATA);
     let image = packed(&file);
     let (mut output, mut answer) = (vec![1; file.len()], [0; 40]);
-    race(
-        "open of 64 MiB: plain Rust hashing",
-        || {
+    row(
+        "open of 64 MiB",
+        |calls| {
             let header = &image[..HEADER];
-            let code = library::open(&image, header, SIGNATURE, &mut output, &mut answer);
+            let code = (calls.open)(&image, header, SIGNATURE, &mut output, &mut answer);
             assert_eq!(code, 0);
         },
+        "plain Rust hashing",
         || hash_blocks(&image),
     );
     let mut output = vec![1; image.len()];
-    race(
-        "pack of 64 MiB: plain Rust hashing",
-        || {
-            let code = library::pack(&file, IDS, BLOCK as u64, SIGNATURE, &mut output);
+    row(
+        "pack of 64 MiB",
+        |calls| {
+            let code = (calls.pack)(&file, IDS, BLOCK as u64, SIGNATURE, &mut output);
             assert_eq!(code, 0);
         },
+        "plain Rust hashing",
         || hash_blocks(&image),
     );
 }
@@ -102,24 +118,26 @@ fn commands() {
     let mut memory = Mapping::new(1 << 30);
     memory.fill(1);
     let mut answer = [0; 40];
-    let mut run = |file: &[u8], map: &[u8], memory: &mut [u8]| {
-        let code = library::run(black_box(file), map, &[], MODE, memory, &mut answer);
+    let mut run = |calls: &Calls, file: &[u8], map: &[u8], memory: &mut [u8]| {
+        let code = (calls.run)(black_box(file), map, &[], MODE, memory, &mut answer);
         assert_eq!(code, 0);
     };
     let bytes = some_bytes(MIB_64);
     let file = File::new().write(0, &bytes).entry(0).0;
     let (part, mut copy) = (regions(1, MIB_64 as u64), vec![1; MIB_64]);
-    race(
-        "write of 64 MiB: copy_from_slice",
-        || run(&file, &part, &mut memory[..MIB_64]),
+    row(
+        "write of 64 MiB",
+        |calls| run(calls, &file, &part, &mut memory[..MIB_64]),
+        "copy_from_slice",
         || black_box(&mut copy).copy_from_slice(black_box(&bytes)),
     );
     let file = File::new().fill(0, 1 << 30, 7).entry(0).0;
     let whole = regions(1, 1 << 30);
     let mut other = Mapping::new(1 << 30);
-    race(
-        "fill of 1 GiB: fill",
-        || run(&file, &whole, &mut memory),
+    row(
+        "fill of 1 GiB",
+        |calls| run(calls, &file, &whole, &mut memory),
+        "fill",
         || black_box(&mut other).fill(7),
     );
     drop(other);
@@ -130,8 +148,18 @@ fn commands() {
     let tail = &File::new().entry(0).0[8..];
     let end = file.len() - tail.len();
     file[end..].copy_from_slice(tail);
-    let took = spent(&mut || run(&file, &part, &mut memory[..MIB_64]));
-    println!("{:<44} {took:>7.3} ms", "skip of 1 GiB");
+    let mut skips = |calls: &Calls, times| {
+        for _ in 0..times {
+            run(calls, &file, &part, &mut memory[..MIB_64]);
+        }
+    };
+    if old_calls().is_some() {
+        let many = |calls: &Calls| skips(calls, 100_000);
+        row("100,000 skips of 1 GiB", many, "", || ());
+    } else {
+        let took = spent(&mut || skips(&library::CALLS, 1));
+        println!("{:<44} {took:>7.3} ms", "skip of 1 GiB");
+    }
     drop(file);
     let (map, room) = (regions(16, 1 << 10), 16 << 10);
     let file = (0..1_000_000u64).fold(File::new(), |file, i| {
@@ -141,9 +169,10 @@ fn commands() {
     let file = file.entry(0).0;
     let mut answer = [0; 40];
     let mut copy = vec![1; room];
-    race(
-        "a million writes of 16: second program",
-        || run(&file, &map, &mut memory[..room]),
+    row(
+        "a million writes of 16",
+        |calls| run(calls, &file, &map, &mut memory[..room]),
+        "second program",
         || {
             let code = machine::run(black_box(&file), &map, &[], MODE, &mut copy, &mut answer);
             assert_eq!(code, 0);
@@ -157,27 +186,32 @@ fn loads() {
     let image = packed(&File::new().write(0, &some_bytes(length)).entry(0).0);
     let map = regions(1, length as u64);
     let (mut memory, mut answer) = (vec![1; length], [0; 40]);
-    let mut load = || {
-        let (header, memory) = (&image[..HEADER], &mut memory);
-        let code = library::load(
+    let mut load = |calls: &Calls| {
+        let code = (calls.load)(
             black_box(&image),
-            header,
+            &image[..HEADER],
             &map,
             &[],
             MODE,
             SIGNATURE,
-            memory,
+            &mut memory,
             &mut answer,
         );
         assert_eq!(code, 0);
     };
-    race("load of 64 MiB: plain Rust hashing", &mut load, || {
-        hash_blocks(&image)
-    });
-    race("load of 64 MiB: its own hashing", &mut load, || {
-        let mut out = [0; 64];
-        for block in image[FIRST..].chunks_exact(BLOCK) {
-            black_box(library::digest(4, block, &mut out));
-        }
-    });
+    let job = "load of 64 MiB";
+    row(job, &mut load, "plain Rust hashing", || hash_blocks(&image));
+    if old_calls().is_some() {
+        return;
+    }
+    race(
+        "load of 64 MiB: its own hashing",
+        || load(&library::CALLS),
+        || {
+            let mut out = [0; 64];
+            for block in image[FIRST..].chunks_exact(BLOCK) {
+                black_box(library::digest(4, block, &mut out));
+            }
+        },
+    );
 }
