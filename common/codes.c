@@ -46,7 +46,7 @@ static const struct code codes[] = {
     [RUNNELPIN_NOT_REACHABLE] = { RUNNING, FILE_OFFSET, MAY_CHANGE, "not reachable",
                                   "an address is beyond the reach of this mode" },
     [RUNNELPIN_NOT_RAM] = { RUNNING, FILE_OFFSET, MAY_CHANGE, "not RAM", "an address is in no region of the map" },
-    [RUNNELPIN_TEXT] = { RUNNING, FILE_OFFSET, MAY_CHANGE, "check text", "it has no zero byte at its end" },
+    [RUNNELPIN_TEXT] = { RUNNING, FILE_OFFSET, MAY_CHANGE, "check text", "it has no zero byte" },
     [RUNNELPIN_CPUID_MISSING] = { RUNNING, FILE_OFFSET, MAY_CHANGE, "no CPUID table",
                                   "the command is a CPUID check, which needs one" },
     [RUNNELPIN_REGISTER] = { RUNNING, FILE_OFFSET, MAY_CHANGE, "check register",
