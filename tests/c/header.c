@@ -1,7 +1,7 @@
 /*
  * Calls each function of runnelpin.h with another value for every parameter, so that two exchanged ones show: a
  * sound call with its whole answer, then each parameter's own refusal. Wanted values are worked out by hand from
- * document 01. C99 and C++ alike.
+ * docs/FORMAT.md. C99 and C++ alike.
  */
 #include "expect.h"
 #include "runnelpin.h"

@@ -1,4 +1,4 @@
-// The numbered answers by name, in the order of document 01's table.
+// The numbered answers by name, in the order of FORMAT's rules N0 to N29.
 
 // nothing refused: the file was used to its end, or written
 pub const DONE: u64 = 0;

@@ -1,4 +1,4 @@
--- What the definitions of the board mean, in the words of document 01, "Where the addresses really are".
+-- What the definitions of the board mean, in the words of FORMAT's rules M, R and C.
 use mathlib.Core.Bool.{true}
 use mathlib.Core.List.{List}
 use mathlib.Core.Logic.{_⊎_, inl, inr, _↔_, _≢_}

@@ -1,5 +1,5 @@
-//! The board that commands run on: memory map, CPUID table, mode. From document 01, "Where the
-//! addresses really are".
+//! The board that commands run on: memory map, CPUID table, mode. From the
+//! customer's document (FORMAT's M, R, C).
 
 use crate::answer::{number, rule};
 

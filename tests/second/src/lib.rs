@@ -1,5 +1,5 @@
 //! The second program: what the proved library does, written once more in Rust
-//! from FIPS 180-4 and document 01 alone, to compare the two.
+//! from FIPS 180-4 and the customer's document alone, to compare the two.
 
 pub mod answer;
 pub mod board;

@@ -1,4 +1,4 @@
-//! The stacked loader, from document 01: blocks proved one by one, each block's bytes run before
+//! The stacked loader, from the customer's document: blocks proved one by one, each block's bytes run before
 //! the next is looked at.
 
 use crate::answer::{Answer, RECORD};

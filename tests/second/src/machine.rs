@@ -1,4 +1,4 @@
-//! The command machine and running bare, from document 01, "The commands".
+//! The command machine and running bare, from the customer's document (FORMAT's F, T).
 
 use crate::answer::{number, rule, Answer, LARGEST, RECORD};
 use crate::board::Board;

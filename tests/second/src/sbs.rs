@@ -1,4 +1,4 @@
-//! Signed block streams, from document 01: packing, opening, the signature field.
+//! Signed block streams, from the customer's document (FORMAT's H, B, I, K): packing, opening, the signature field.
 
 use crate::answer::{rule, Answer, LARGEST, RECORD};
 use crate::sha2;

@@ -1,4 +1,4 @@
-//! The tool against the second program, on the lines of document 01 and on generated cases.
+//! The tool against the second program, on both sides of each of FORMAT's lines and on generated cases.
 
 use second::cases::commands::RunCase;
 use second::cases::load::LoadCase;

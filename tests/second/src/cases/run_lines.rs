@@ -1,11 +1,11 @@
-//! Running bare on both sides of each line of document 01, for either program.
+//! Running bare on both sides of each line that FORMAT draws, for either program.
 
 use super::commands::Run;
 use super::lent::Mapping;
 use crate::answer::number;
 use crate::machine::MAGIC;
 
-/// Two regions, 12,288 bytes of memory: the map M of document 01.
+/// Two regions, 12,288 bytes of memory: the map of FORMAT's worked cases.
 const M: [u64; 4] = [0x1000, 0x1000, 0x100000, 0x2000];
 /// EAX 1, ECX 2; the four results.
 const TABLE: [u32; 6] = [1, 2, 0xf0, 0x11, 0x22, 0x33];

@@ -1,4 +1,4 @@
-//! Open, pack and signature on both sides of each line of document 01, for either program.
+//! Open, pack and signature on both sides of each line that FORMAT draws, for either program.
 
 use super::lent::Mapping;
 use super::sbs::{Open, Pack, Signature};
