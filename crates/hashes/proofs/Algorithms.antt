@@ -5,11 +5,10 @@ use mathlib.Core.List.{List, [], _∷_}
 use Prim.Native.Nat.{ℕ}
 use borrow.Author.Tests.{ne-eqb}
 use lib.Dec.{eqb}
-use Rattle.hashes.specs.declared.Digested.{Digested}
 use Rattle.hashes.specs.Tables.{SHA2-256, SHA2-384, SHA2-512}
 use Rattle.hashes.specs.Compression.{sha2}
 use Rattle.hashes.specs.Digests.{Algorithm, algorithm, algorithms, algorithmOf, digest, digestLength}
-use Rattle.hashes.specs.Code.{inSixtyFour, digestedBy}
+use Rattle.hashes.specs.Code.{inSixtyFour}
 
 module _ {i : ℕ} where
   pub has-2 : i ≡ 2 → algorithmOf algorithms i ≡ algorithm 2 32 (sha2 SHA2-256)
@@ -33,12 +32,10 @@ module _ (i : ℕ) {x : Algorithm} (e : algorithmOf algorithms i ≡ x) where
   unfolding digestLength
   length-by = ap (λ (y : Algorithm). y .bytes) e
 
-  pub digest-by : (m : List ℕ) {b : List ℕ} → b ≡ inSixtyFour (x .digest m) → _≡_ {A = Digested} (record { bytes = b; length = x .bytes }) (digestedBy i m)
+  -- the answer of a call: 64 bytes, and how many of them are the digest
+  pub answer-by : (m : List ℕ) {b : List ℕ} {n : ℕ} → b ≡ inSixtyFour (x .digest m) → n ≡ x .bytes → (b ≡ inSixtyFour (digest i m)) × (n ≡ digestLength i)
   unfolding digest
-  digest-by m f =
-      let bytes = f ∙ ap (λ (y : Algorithm). inSixtyFour (y .digest m)) (sym e) in
-      let length = sym length-by in
-      λ j. record { bytes = bytes j; length = length j }
+  answer-by m f g = (f ∙ ap (λ (y : Algorithm). inSixtyFour (y .digest m)) (sym e), g ∙ sym length-by)
 
 -- what the algorithms of a list have, and an algorithm of empty digests too, every ID's algorithm has
 module _ (Q : Algorithm → Type 0) (none : (i : ℕ) → Q (algorithm i 0 (λ m. []))) where

@@ -13,7 +13,7 @@ use Rattle.octets.proofs.NumberLaws.{big-bigBytes, bigBytes-big, length-bigByte
 use Rattle.hashes.specs.Widths.{Width, Eight}
 use Rattle.hashes.specs.Padding.{wordBytes, blockBytes, fieldBytes, zeroBytes, padded, wordsAt, block}
 use Rattle.hashes.specs.Compression.{compressed, afterBlocks, hashed}
-use Rattle.hashes.specs.Code.{Rounds, lastBlocks}
+use Rattle.hashes.specs.Progress.{Rounds}
 use Rattle.hashes.proofs.Rounds.{none-done}
 
 -- ---- the words of a block
@@ -100,14 +100,18 @@ module _ (P : Width) where
       let e : i ≡ n = omega arith in
       h .value ∙ ap (afterBlocks P H s) e
 
-  afterBlocks-append : (H : Eight) (s t : List ℕ) (i : ℕ) → i * blockBytes P ≤ length s → afterBlocks P H (s ++ t) i ≡ afterBlocks P H s i
+  pub work-nothing : (H : Eight) (s : List ℕ) {n : ℕ} → n ≡ 0 → H ≡ afterBlocks P H s n
+  unfolding afterBlocks
+  work-nothing H s e = sym (ap (afterBlocks P H s) e)
+
+  pub afterBlocks-append : (H : Eight) (s t : List ℕ) (i : ℕ) → i * blockBytes P ≤ length s → afterBlocks P H (s ++ t) i ≡ afterBlocks P H s i
   unfolding afterBlocks
   afterBlocks-append H s t zero l = refl
   afterBlocks-append H s t (suc i) l =
       let m : i * blockBytes P + blockBytes P ≤ length s = omega (arith, suc-mul i (blockBytes P)) in
       ap₂ (compressed P) (afterBlocks-append H s t i (omega arith)) (wordsAt-append P s t (i * blockBytes P) 16 m)
 
-  afterBlocks-drop : (H : Eight) (s : List ℕ) (i j : ℕ) → afterBlocks P (afterBlocks P H s i) (drop (i * blockBytes P) s) j ≡ afterBlocks P H s (i + j)
+  pub afterBlocks-drop : (H : Eight) (s : List ℕ) (i j : ℕ) → afterBlocks P (afterBlocks P H s i) (drop (i * blockBytes P) s) j ≡ afterBlocks P H s (i + j)
   unfolding afterBlocks
   afterBlocks-drop H s i zero = ap (afterBlocks P H s) (sym (add-zero i))
   afterBlocks-drop H s i (suc j) =
@@ -115,121 +119,12 @@ module _ (P : Width) where
       (wordsAt-drop P s (i * blockBytes P) (j * blockBytes P) 16 ∙ ap (λ (k : ℕ). wordsAt P s k 16) (sym (add-mul i j (blockBytes P))))
       ∙ ap (afterBlocks P H s) (sym (add-suc i j))
 
-  -- a message's whole blocks, and then its last ones
-  pub hashed-in-two : 0 < wordBytes P → (H : Eight) (m : List ℕ) {s : List ℕ} {v r : Eight} → v ≡ afterBlocks P H m (length m / blockBytes P)
-      → s ≡ lastBlocks P m → r ≡ afterBlocks P v s (length s / blockBytes P) → r ≡ hashed P H m
-  unfolding hashed lastBlocks padded
-  hashed-in-two p H m {s} {v} {r} e l f =
-      f
-      ∙ ap (λ (t : List ℕ). afterBlocks P v t (length t / B)) l
-      ∙ ap (λ (x : Eight). afterBlocks P x (drop (q * B) whole) (length (drop (q * B) whole) / B)) (e ∙ sym first)
-      ∙ afterBlocks-drop H whole q (length (drop (q * B) whole) / B)
-      ∙ ap (afterBlocks P H whole) count
-    where
-      B : ℕ
-      B = blockBytes P
-
-      q : ℕ
-      q = length m / B
-
-      whole : List ℕ
-      whole = padded P m
-
-      fill : List ℕ
-      fill = 0x80 ∷ replicate (zeroBytes P (length m)) 0
-
-      field : List ℕ
-      field = bigBytes (fieldBytes P) (8 * length m)
-
-      first : afterBlocks P H whole q ≡ afterBlocks P H m q
-      first = ap (λ (s : List ℕ). afterBlocks P H s q) (append-assoc m fill field) ∙ afterBlocks-append H m (fill ++ field) q (div-mul-le-self (length m) B)
-
-      within : q * B ≤ length whole
-      within = le-trans (div-mul-le-self (length m) B) (omega (arith, length-append (m ++ fill) field, length-append m fill))
-
-      count : q + length (drop (q * B) whole) / B ≡ length whole / B
-      count =
-          sym (mul-add-div-right (omega arith) q (length (drop (q * B) whole)))
-          ∙ ap (λ (k : ℕ). k / B) (ap (λ (k : ℕ). q * B + k) (length-drop (q * B) whole) ∙ add-sub-of-le within)
-
 -- ---- the last blocks
 
 pub drop-replicate : (k n a : ℕ) → drop k (replicate n a) ≡ replicate (n - k) a
 drop-replicate zero n a = ap (λ (j : ℕ). replicate j a) (sym (sub-zero n))
 drop-replicate (suc k) zero a = ap (λ (j : ℕ). replicate j a) (sym (zero-sub (suc k)))
 drop-replicate (suc k) (suc n) a = drop-replicate k n a ∙ ap (λ (j : ℕ). replicate j a) (sym (suc-sub-suc n k))
-
--- bytes x, the byte 0x80 and a field put into zeros, so that z zeros are left between them
-put-into-zeros : (x field : List ℕ) (size z : ℕ) {zeros copied marked full : List ℕ} → length x + 1 + z + length field ≤ size
-    → zeros ≡ replicate size 0 → copied ≡ put zeros 0 x → marked ≡ set copied (length x) 0x80 → full ≡ put marked (length x + 1 + z) field
-    → take (length x + 1 + z + length field) full ≡ x ++ (0x80 ∷ replicate z 0) ++ field
-put-into-zeros x field size z {zeros} {copied} {marked} {full} l ez ec em ef =
-    ap (take (length x + 1 + z + length field)) ef
-    ∙ take-at (take (length x + 1 + z) marked ++ field) (drop (length x + 1 + z + length field) marked) (length x + 1 + z + length field)
-    (length-append (take (length x + 1 + z) marked) field ∙ ap (λ (k : ℕ). k + length field) (ap length front ∙ length-front))
-    ∙ ap (λ (s : List ℕ). s ++ field) front
-  where
-    rest : ℕ
-    rest = size - length x - 1
-
-    copied-list : copied ≡ x ++ 0 ∷ replicate rest 0
-    copied-list =
-        ec
-        ∙ ap (λ (s : List ℕ). x ++ drop (0 + length x) s) ez
-        ∙ ap (λ (s : List ℕ). x ++ s) (drop-replicate (0 + length x) size 0 ∙ ap (λ (j : ℕ). replicate j 0) more)
-      where
-        more : size - (0 + length x) ≡ suc rest
-        more = omega arith
-
-    marked-list : marked ≡ (x ++ (0x80 ∷ replicate z 0)) ++ replicate (rest - z) 0
-    marked-list =
-        em
-        ∙ ap (λ (s : List ℕ). set s (length x) 0x80) copied-list
-        ∙ set-at x 0 (replicate rest 0) 0x80 (length x) refl
-        ∙ ap (λ (s : List ℕ). x ++ 0x80 ∷ s) (ap (λ (j : ℕ). replicate j 0) parted ∙ sym (replicate-append-replicate z (rest - z) 0))
-        ∙ sym (append-assoc x (0x80 ∷ replicate z 0) (replicate (rest - z) 0))
-      where
-        parted : rest ≡ z + (rest - z)
-        parted = omega arith
-
-    length-front : length (x ++ (0x80 ∷ replicate z 0)) ≡ length x + 1 + z
-    length-front = omega (arith, length-append x (0x80 ∷ replicate z 0), length-replicate {A = ℕ} z 0)
-
-    front : take (length x + 1 + z) marked ≡ x ++ (0x80 ∷ replicate z 0)
-    front =
-        ap (take (length x + 1 + z)) marked-list
-        ∙ take-at (x ++ (0x80 ∷ replicate z 0)) (replicate (rest - z) 0) (length x + 1 + z) length-front
-
--- the last blocks as they are composed, n bytes of which `rest` are the message's
-pub last-composed : (P : Width) (m : List ℕ) (size start rest n at : ℕ) {zeros copied marked full : List ℕ} → start ≡ length m / blockBytes P * blockBytes P
-    → start + rest ≡ length m → at ≡ rest + 1 + zeroBytes P (length m) → n ≡ at + fieldBytes P → n ≤ size
-    → zeros ≡ replicate size 0 → copied ≡ put zeros 0 (take (length m - start) (drop start m)) → marked ≡ set copied rest 0x80
-    → full ≡ put marked at (bigBytes (fieldBytes P) (8 * length m)) → take n full ≡ lastBlocks P m
-unfolding lastBlocks padded
-last-composed P m size start rest n at {zeros} {copied} {marked} {full} es er ea en l ez ec em ef =
-    ap (λ (k : ℕ). take k full) count
-    ∙ put-into-zeros x field size z (omega (arith, count)) ez (ec ∙ ap (put zeros 0) (take-all (length m - start) x (omega (arith, length-drop start m)))) (em ∙ ap (λ (k : ℕ). set copied k 0x80) (sym length-x)) (ef ∙ ap (λ (k : ℕ). put marked k field) place)
-    ∙ ap (λ (s : List ℕ). s ++ field) (sym (drop-append-le start m (0x80 ∷ replicate z 0) (omega arith)))
-    ∙ sym (drop-append-le start (m ++ (0x80 ∷ replicate z 0)) field (omega (arith, length-append m (0x80 ∷ replicate z 0))))
-    ∙ ap (λ (k : ℕ). drop k (m ++ (0x80 ∷ replicate z 0) ++ field)) es
-  where
-    x : List ℕ
-    x = drop start m
-
-    z : ℕ
-    z = zeroBytes P (length m)
-
-    field : List ℕ
-    field = bigBytes (fieldBytes P) (8 * length m)
-
-    length-x : length x ≡ rest
-    length-x = omega (arith, length-drop start m)
-
-    place : at ≡ length x + 1 + z
-    place = omega (arith, length-drop start m)
-
-    count : n ≡ length x + 1 + z + length field
-    count = omega (arith, place, length-bigBytes (fieldBytes P) (8 * length m))
 
 bigBytes-mod : (n x : ℕ) → bigBytes n (x % 256 ^ n) ≡ bigBytes n x
 bigBytes-mod n x =

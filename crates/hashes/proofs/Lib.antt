@@ -1,5 +1,6 @@
 pub mod Algorithms
 pub mod Blocks
+pub mod Feeding
 pub mod Identities
 pub mod Rounds
 pub mod Storing

@@ -11,7 +11,7 @@ use lib.Seq.{getD-at, getD-take, getD-set-same, getD-set-other}
 use Rattle.hashes.specs.Words.{add, ch, maj, bigSigma, smallSigma}
 use Rattle.hashes.specs.Widths.{Width, Eight}
 use Rattle.hashes.specs.Compression.{mixed, nextWord, withNext, scheduled, schedule, T₁, T₂, round, afterRounds, summed, compressed}
-use Rattle.hashes.specs.Code.{Rounds, Leads}
+use Rattle.hashes.specs.Progress.{Rounds, Leads}
 
 -- ---- the sums
 

@@ -1,11 +1,11 @@
 -- Laws of the bytes of a hash value, over the width, and of the digests that are cut from them.
 use mathlib.Core.Path.{_≡_, refl, sym, ap, ap₂, _∙_}
-use mathlib.Core.List.{List, [], _∷_, _++_, append-assoc}
+use mathlib.Core.List.{List, [], _∷_, _++_, append-assoc, append-nil}
 use Prim.Native.Nat.{ℕ, zero, suc, _+_, _-_, _*_, _≤_, _<_}
 use native.Mathlib.Nat.{add-mul, add-sub-of-le, add-suc, add-zero, le-trans, mul-le-mul-right, suc-mul, zero-mul}
 use native.Mathlib.Numerals.{add-one}
 use native.Mathlib.Omega.{arith}
-use lib.ListN.{length, getD, take, drop, replicate, length-append, length-replicate}
+use lib.ListN.{length, getD, take, drop, replicate, length-append, length-replicate, drop-of-length-le}
 use lib.Seq.{drop-append-add, length-take-le, take-all, take-append-le, take-append-seam, take-at}
 use Rattle.octets.specs.Numbers.{bigBytes}
 use Rattle.octets.specs.Parts.{put, Octets}
@@ -16,6 +16,11 @@ use Rattle.hashes.specs.Padding.{wordBytes}
 use Rattle.hashes.specs.Compression.{hashed, joined, sha2}
 use Rattle.hashes.specs.Code.{inSixtyFour}
 use Rattle.hashes.proofs.Blocks.{drop-replicate}
+
+-- 64 bytes, zeros put over all of them
+pub zeros-in-sixty-four : (out : List ℕ) → length out ≡ 64 → put out 0 (replicate 64 0) ≡ replicate 64 0
+zeros-in-sixty-four out l =
+    ap (λ (s : List ℕ). replicate 64 0 ++ s) (drop-of-length-le out {i = 64} (omega arith)) ∙ append-nil (replicate 64 0)
 
 module _ (P : Width) (ws : List ℕ) where
   length-joined : (n : ℕ) → length (joined P ws n) ≡ n * wordBytes P
@@ -48,9 +53,11 @@ module _ (P : Width) (ws : List ℕ) where
     pub room : length out ≡ 64
     pub stored : out ≡ inSixtyFour (joined P ws i)
 
-  pub store-none : (n : ℕ) {out : List ℕ} → out ≡ replicate 64 0 → Storing n out 0
+  pub store-none : (n : ℕ) (out : List ℕ) {zeros : List ℕ} → length out ≡ 64 → zeros ≡ put out 0 (replicate 64 0) → Storing n zeros 0
   unfolding joined
-  store-none n e = record { until = omega arith; room = ap length e; stored = e }
+  store-none n out l e =
+      let f = e ∙ zeros-in-sixty-four out l in
+      record { until = omega arith; room = ap length f; stored = f }
 
   pub store-more : (n i : ℕ) {out r : List ℕ} → n * wordBytes P ≤ 64 → i < n → Storing n out i
       → r ≡ put out (i * wordBytes P) (bigBytes (wordBytes P) (getD ws i 0)) → Storing n r (i + 1)
@@ -111,14 +118,14 @@ module _ (P : Width) (ws : List ℕ) where
 -- ---- a whole digest
 
 module _ (X : Hash) (m : List ℕ) where
-  -- of the initial hash value, the message worked in, and the first n words stored
-  pub sha2-of : (n : ℕ) → n ≤ 8 → X .bytes ≡ n * wordBytes (X .width) → {u v : Eight} {r : List ℕ} → u ≡ X .initial → v ≡ hashed (X .width) u m
-      → r ≡ inSixtyFour (joined (X .width) (inOrder v) n) → r ≡ inSixtyFour (sha2 X m)
+  -- of the first n words of the message's hash value
+  pub sha2-of : (n : ℕ) → n ≤ 8 → X .bytes ≡ n * wordBytes (X .width) → {u : Eight} {r : List ℕ} → u ≡ X .initial
+      → r ≡ inSixtyFour (joined (X .width) (inOrder (hashed (X .width) u m)) n) → r ≡ inSixtyFour (sha2 X m)
   unfolding sha2
-  sha2-of n l b {u} {v} {r} eu ev er =
+  sha2-of n l b {u} {r} eu er =
       er
       ∙ ap inSixtyFour
-      (ap (λ (v : Eight). joined (X .width) (inOrder v) n) (ev ∙ ap (λ (u : Eight). hashed (X .width) u m) eu)
+      (ap (λ (u : Eight). joined (X .width) (inOrder (hashed (X .width) u m)) n) eu
       ∙ sym (take-joined (X .width) words n (8 - n))
       ∙ ap₂ (λ (j k : ℕ). take j (joined (X .width) words k)) (sym b) (add-sub-of-le l))
     where

@@ -1,7 +1,7 @@
 -- What a reader of the hashes looks for, and what the layers above them use.
-use mathlib.Core.Path.{_≡_, refl, sym, ap, _∙_}
-use mathlib.Core.List.{List, [], _∷_, _++_}
-use Prim.Native.Nat.{ℕ, zero, _+_, _-_, _*_, _/_, _%_, _≤_, _<_}
+use mathlib.Core.Path.{_≡_, refl, sym, ap, _∙_, subst}
+use mathlib.Core.List.{List, [], _∷_, _++_, append-assoc, append-nil, flatten}
+use Prim.Native.Nat.{ℕ, zero, _+_, _-_, _*_, _/_, _%_, _^_, _≤_, _<_}
 use native.Mathlib.Nat.{add-mod-mod, add-mod-right, div-add-mod', mod-le, mod-lt, mod-self, mul-mod-left, sub-zero}
 use native.Mathlib.Omega.{arith}
 use lib.Arith.{digits-mod}
@@ -9,11 +9,14 @@ use lib.ListN.{length, replicate, length-append, length-replicate}
 use Rattle.octets.specs.Numbers.{little, littleBytes, bigBytes}
 use Rattle.octets.specs.Parts.{Octets}
 use Rattle.octets.proofs.NumberLaws.{length-bigBytes}
+use Rattle.hashes.specs.declared.Hasher.{Hasher}
 use Rattle.hashes.specs.Widths.{Width}
 use Rattle.hashes.specs.Padding.{wordBytes, blockBytes, fieldBytes, zeroBytes, padded, wordsAt}
 use Rattle.hashes.specs.Tables.{K256, K512, initial256, initial384, SHA2-256, SHA2-384, SHA2-512}
 use Rattle.hashes.specs.Compression.{withNext, scheduled, round, afterRounds, summed, compressed, afterBlocks, hashed, joined, sha2}
 use Rattle.hashes.specs.Digests.{Algorithm, algorithmOf, algorithms, digest, digestLength}
+use Rattle.hashes.specs.Code.{inSixtyFour}
+use Rattle.hashes.specs.Progress.{Fed, Feeds, Finishes}
 use Rattle.hashes.proofs.Storing.{length-sha2, octets-sha2}
 use Rattle.hashes.proofs.Algorithms.{every-algorithm, has-none, length-by}
 
@@ -41,6 +44,28 @@ digestLength-zero = length-by 0 (has-none (omega arith) (omega arith) (omega ari
 
 pub digestLength-high : (i : ℕ) → 65536 ≤ i → digestLength i ≡ 0
 digestLength-high i l = length-by i (has-none (omega arith) (omega arith) (omega arith))
+
+-- a digest and the zeros behind it are 64 bytes
+pub length-inSixtyFour : (i : ℕ) (m : List ℕ) → length (inSixtyFour (digest i m)) ≡ 64
+length-inSixtyFour i m =
+    omega (arith, length-append (digest i m) (replicate (64 - length (digest i m)) 0), length-replicate {A = ℕ} (64 - length (digest i m)) 0, length-digest i m, digestLength-most i)
+
+-- ---- a message in pieces: begin, any number of pieces fed one after the other, and finish give the digest of the pieces joined
+
+-- from one hasher to another by pieces fed one after the other, each as the call `fed` promises it
+pub data FedBy : Hasher → List (List ℕ) → Hasher → Type 0 where
+  none : {h : Hasher} → FedBy h [] h
+  more : {h k r : Hasher} {p : List ℕ} {ps : List (List ℕ)} → Feeds h p k → FedBy k ps r → FedBy h (p ∷ ps) r
+
+fed-all : (i : ℕ) (x : List ℕ) {h r : Hasher} {ps : List (List ℕ)} → Fed h i x → FedBy h ps r → Fed r i (x ++ flatten ps)
+unfolding flatten
+fed-all i x {h} f none = subst (Fed h i) (sym (append-nil x)) f
+fed-all i x {r = r} f (more {p = p} {ps} g s) = subst (Fed r i) (append-assoc x p (flatten ps)) (fed-all i (x ++ p) (g i x f) s)
+
+-- h as `begin` promises it of the ID i, r as `fed` does of the pieces, out and n as `finish` does of r
+pub pieces-joined : (i : ℕ) {h r : Hasher} {ps : List (List ℕ)} {out : List ℕ} {n : ℕ} → length (flatten ps) < 2 ^ 64 → Fed h i [] → FedBy h ps r
+    → Finishes r out n → (out ≡ inSixtyFour (digest i (flatten ps))) × (n ≡ digestLength i)
+pieces-joined i {ps = ps} l b s f = f i (flatten ps) l (fed-all i [] b s)
 
 -- ---- FIPS 180-4, 5.1: the padded message is of whole blocks, by as few zero bytes as do it
 

@@ -6,19 +6,18 @@ use native.Mathlib.Omega.{arith}
 use borrow.Author.Tests.{eq-eqb, ne-eqb}
 use lib.ListN.{length, drop-of-length-le}
 use Rattle.octets.specs.Parts.{put}
-use Rattle.hashes.specs.declared.Digested.{Digested}
-use Rattle.hashes.specs.Code.{inSixtyFour, digestedBy}
+use Rattle.hashes.specs.Code.{inSixtyFour}
 use Rattle.hashes.specs.Digests.{digest, digestLength}
 use Rattle.probe.specs.Written.{written}
 
-module _ (i : ℕ) (m : List ℕ) (d : Digested) (e : d ≡ digestedBy i m) (out : List ℕ) where
-  pub all-written : (after : List ℕ) → after ≡ put out 0 (d .bytes) → length out ≡ 64 → length (d .bytes) ≡ 64
-      → (d .length ≡ digestLength i) × (after ≡ written out (inSixtyFour (digest i m)))
+module _ (i n : ℕ) (m bytes : List ℕ) (e : (bytes ≡ inSixtyFour (digest i m)) × (n ≡ digestLength i)) (out : List ℕ) where
+  pub all-written : (after : List ℕ) → after ≡ put out 0 bytes → length out ≡ 64 → length bytes ≡ 64
+      → (n ≡ digestLength i) × (after ≡ written out (inSixtyFour (digest i m)))
   all-written after p h k = (
-    ap (λ (x : Digested). x .length) e,
-    p ∙ ap (λ (s : List ℕ). d .bytes ++ s) (drop-of-length-le out {i = 0 + length (d .bytes)} (omega arith)) ∙ append-nil (d .bytes)
-        ∙ ap (λ (x : Digested). x .bytes) e ∙ simp (eq-eqb (length out) 64 h),
+    e .1,
+    p ∙ ap (λ (s : List ℕ). bytes ++ s) (drop-of-length-le out {i = 0 + length bytes} (omega arith)) ∙ append-nil bytes ∙ e .0
+        ∙ simp (eq-eqb (length out) 64 h),
   )
 
-  pub none-written : (length out ≡ 64 → ⊥) → (d .length ≡ digestLength i) × (out ≡ written out (inSixtyFour (digest i m)))
-  none-written h = (ap (λ (x : Digested). x .length) e, simp (ne-eqb (length out) 64 h))
+  pub none-written : (length out ≡ 64 → ⊥) → (n ≡ digestLength i) × (out ≡ written out (inSixtyFour (digest i m)))
+  none-written h = (e .1, simp (ne-eqb (length out) 64 h))

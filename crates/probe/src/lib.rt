@@ -11,12 +11,11 @@ pub extern "C" fn probe_digest(id: u64, message: &[u8], out: &mut [u8]) -> u64
     ensures { λ r. ⌜ r ≡ digestLength id ⌝ }
     ensures { λ r. ⌜ now (out .exit) ≡ written (now (out .entry)) (inSixtyFour (digestOf id (now (message .entry)))) ⌝ }
 {
-    let digest = hashes::digest(id, message);
-    let length = digest.length as u64;
+    let mut bytes = [0u8; 64];
+    let length = hashes::digest(id, message, &mut bytes) as u64;
     if out.len() != 64 {
         return length;
     }
-    let bytes = digest.bytes;
     octets::parts::copy(out, 0, &bytes);
     length
 }

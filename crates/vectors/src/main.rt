@@ -1,4 +1,4 @@
-// Writes the digests of known messages, one to a line: hash, message, digest in hexadecimal.
+// Writes the digests of known messages, one to a line: hash, message, digest in hexadecimal. Of a message named `..-by-N` the digest is made of pieces of N bytes.
 ghost use Prim.Native.Nat.{_≤_};
 
 fn main() {
@@ -20,19 +20,22 @@ fn main() {
     border(b"border-129", 129);
 }
 
-// The messages of the standard's published examples.
+// The messages of the standard's published examples, whole and in pieces that end before, at and behind a block's border.
 fn published() {
     let none = [0u8; 0];
     lines(b"empty", &none);
     lines(b"abc", b"abc");
-    lines(
-        b"448-bit",
-        b"abcdbcdecdefdefgefghfghighijhijkijkljklmklmnlmnomnopnopq",
-    );
-    lines(
-        b"896-bit",
-        b"abcdefghbcdefghicdefghijdefghijkefghijklfghijklmghijklmnhijklmnoijklmnopjklmnopqklmnopqrlmnopqrsmnopqrstnopqrstu",
-    );
+    pieces(b"abc-by-1", b"abc", 1);
+    let short = b"abcdbcdecdefdefgefghfghighijhijkijkljklmklmnlmnomnopnopq";
+    lines(b"448-bit", short);
+    pieces(b"448-bit-by-55", short, 55);
+    let long =
+        b"abcdefghbcdefghicdefghijdefghijkefghijklfghijklmghijklmnhijklmnoijklmnopjklmnopqklmnopqrlmnopqrsmnopqrstnopqrstu";
+    lines(b"896-bit", long);
+    pieces(b"896-bit-by-1", long, 1);
+    pieces(b"896-bit-by-63", long, 63);
+    pieces(b"896-bit-by-64", long, 64);
+    pieces(b"896-bit-by-65", long, 65);
     let message = [b'a'; 1000000];
     million(&message);
 }
@@ -40,6 +43,10 @@ fn published() {
 // The array's length is known here by its type: proving it from the value builds a list of a million.
 fn million(message: &[u8; 1000000]) {
     lines(b"million-a", message);
+    pieces(b"million-a-by-1", message, 1);
+    pieces(b"million-a-by-127", message, 127);
+    pieces(b"million-a-by-128", message, 128);
+    pieces(b"million-a-by-1000", message, 1000);
 }
 
 // The message of `length` bytes whose byte i is i mod 251.
@@ -56,18 +63,51 @@ fn border(name: &[u8], length: usize)
 }
 
 fn lines(name: &[u8], message: &[u8]) {
-    line(b"sha256 ", 2, name, message);
-    line(b"sha384 ", 3, name, message);
-    line(b"sha512 ", 4, name, message);
+    line(2, b"sha256 ", name, message);
+    line(3, b"sha384 ", name, message);
+    line(4, b"sha512 ", name, message);
 }
 
-fn line(hash: &[u8], id: u64, name: &[u8], message: &[u8]) {
+fn line(id: u64, hash: &[u8], name: &[u8], message: &[u8]) {
+    let mut digest = [0u8; 64];
+    let length = hashes::digest(id, message, &mut digest);
+    write(hash, name, &digest, length);
+}
+
+// The same of a message fed in pieces of `size` bytes.
+fn pieces(name: &[u8], message: &[u8], size: usize)
+    requires { ⌜ 1 ≤ size ⌝ }
+{
+    piece_line(2, b"sha256 ", name, message, size);
+    piece_line(3, b"sha384 ", name, message, size);
+    piece_line(4, b"sha512 ", name, message, size);
+}
+
+fn piece_line(id: u64, hash: &[u8], name: &[u8], message: &[u8], size: usize)
+    requires { ⌜ 1 ≤ size ⌝ }
+{
+    let mut digest = [0u8; 64];
+    let length = fed(hashes::Hasher::begin(id), message, size).finish(&mut digest);
+    write(hash, name, &digest, length);
+}
+
+fn fed(hasher: hashes::Hasher, message: &[u8], size: usize) -> hashes::Hasher
+    requires { ⌜ 1 ≤ size ⌝ }
+{
+    let mut h = hasher;
+    let mut at = 0usize;
+    while size < message.len() - at {
+        h = h.fed(&message[at..at + size]);
+        at += size;
+    }
+    h.fed(&message[at..])
+}
+
+fn write(hash: &[u8], name: &[u8], digest: &[u8; 64], length: usize) {
     io::write_all(1, hash);
     io::write_all(1, name);
     io::write_all(1, b" ");
-    let digest = hashes::digest(id, message);
-    let bytes = digest.bytes;
-    hex(&bytes, digest.length);
+    hex(digest, length);
     io::write_all(1, b"\n");
 }
 

@@ -1,21 +1,23 @@
-use mathlib.Core.Path.{sym}
+use mathlib.Core.Path.{ap, sym, _∙_}
 use native.Mathlib.Omega.{arith}
 use borrow.Author.Needs.{needs}
+use lib.ListN.{length}
+use Rattle.hashes.proofs.Theorems.{length-inSixtyFour}
 use Rattle.probe.proofs.Writing.{all-written, none-written}
 use Rattle.probe.proofs.probe_digest.Statement.{statement}
 use Rattle.probe.proofs.probe_digest.Tie as tie
 
-slice-aggregate-copy : tie.Need-slice-aggregate-copy
-slice-aggregate-copy c = search needs
-
 returns : tie.Need-returns
-returns c = none-written _ _ _ (c .before .digest .ensures) _ (c .if1 .taken)
+returns c = none-written _ _ _ _ (c .before .digest .ensures) _ (c .if1 .taken)
+
+slice-aggregate-copy : tie.Need-slice-aggregate-copy
+slice-aggregate-copy c = sym (ap length (c .before .before .before .digest .ensures .0) ∙ length-inSixtyFour _ _)
 
 returns-2 : tie.Need-returns-2
 returns-2 c =
     let s = c .before .before .before in
-    let e = s .before .before .before in
-    all-written _ _ _ (e .before .digest .ensures) _ _ (c .before .before .copy .ensures) (e .if1 .left) (sym (slice-aggregate-copy s))
+    let e = s .before .before in
+    all-written _ _ _ _ (e .before .digest .ensures) _ _ (c .before .before .copy .ensures) (e .if1 .left) (sym (slice-aggregate-copy s))
 
 pub probe-digest-spec : {M : Type 1} → statement M
 probe-digest-spec =

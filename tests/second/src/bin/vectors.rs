@@ -1,5 +1,6 @@
 //! Prints the digests of the published messages and of messages at each padding border,
-//! line for line what the Rattle program `vectors` prints.
+//! line for line what the Rattle program `vectors` prints: that one feeds the messages
+//! named `..-by-N` in pieces of N bytes, this one hashes them whole.
 
 use second::sha2;
 
@@ -12,13 +13,20 @@ const BORDERS: [usize; 14] = [
 
 fn main() {
     show("empty", b"");
-    show("abc", b"abc");
-    show("448-bit", MESSAGE_448);
-    show("896-bit", MESSAGE_896);
-    show("million-a", &[b'a'; 1_000_000]);
+    show_by("abc", b"abc", &[1]);
+    show_by("448-bit", MESSAGE_448, &[55]);
+    show_by("896-bit", MESSAGE_896, &[1, 63, 64, 65]);
+    show_by("million-a", &[b'a'; 1_000_000], &[1, 127, 128, 1000]);
     for length in BORDERS {
         let message: Vec<u8> = (0..length).map(|i| (i % 251) as u8).collect();
         show(&format!("border-{length}"), &message);
+    }
+}
+
+fn show_by(name: &str, message: &[u8], sizes: &[usize]) {
+    show(name, message);
+    for size in sizes {
+        show(&format!("{name}-by-{size}"), message);
     }
 }
 
