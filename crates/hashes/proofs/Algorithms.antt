@@ -33,7 +33,8 @@ module _ (i : ℕ) {x : Algorithm} (e : algorithmOf algorithms i ≡ x) where
   length-by = ap (λ (y : Algorithm). y .bytes) e
 
   -- the answer of a call: 64 bytes, and how many of them are the digest
-  pub answer-by : (m : List ℕ) {b : List ℕ} {n : ℕ} → b ≡ inSixtyFour (x .digest m) → n ≡ x .bytes → (b ≡ inSixtyFour (digest i m)) × (n ≡ digestLength i)
+  pub answer-by : (m : List ℕ) {b : List ℕ} {n : ℕ} → b ≡ inSixtyFour (x .digest m) → n ≡ x .bytes
+      → (b ≡ inSixtyFour (digest i m)) × (n ≡ digestLength i)
   unfolding digest
   answer-by m f g = (f ∙ ap (λ (y : Algorithm). inSixtyFour (y .digest m)) (sym e), g ∙ sym length-by)
 

@@ -1,18 +1,18 @@
--- Laws of the blocks of a message, over the width: loading them, working in one after the other, and composing the last ones.
+-- Laws of the blocks of a message, over the width: loading one, working in one after the other, and the last one's length field.
 use mathlib.Core.Path.{_≡_, refl, sym, ap, ap₂, _∙_, subst}
-use mathlib.Core.List.{List, [], _∷_, _++_, append-assoc}
-use Prim.Native.Nat.{ℕ, zero, suc, _+_, _-_, _*_, _/_, _%_, _^_, _≤_, _<_}
-use native.Mathlib.Nat.{add-assoc, add-mul, add-sub-of-le, add-suc, add-zero, div-mul-le-self, le-trans, mul-add-div-right, sub-zero, suc-mul, suc-sub-suc, zero-sub}
+use mathlib.Core.List.{List, [], _∷_, _++_}
+use Prim.Native.Nat.{ℕ, zero, suc, _+_, _*_, _/_, _%_, _^_, _≤_, _<_}
+use native.Mathlib.Nat.{add-assoc, add-mul, add-suc, add-zero, suc-mul}
 use native.Mathlib.Numerals.{add-one}
 use native.Mathlib.Omega.{arith}
-use lib.ListN.{length, take, drop, set, replicate, length-append, length-drop, length-replicate, length-set, replicate-append-replicate}
-use lib.Seq.{take-all, take-append-le, drop-append-le, drop-at, drop-drop, set-at, take-at, take-suc-set}
+use lib.ListN.{length, take, drop, set, length-append, length-drop, length-set}
+use lib.Seq.{take-append-le, drop-append-le, drop-drop, take-suc-set}
 use Rattle.octets.specs.Numbers.{big, bigBytes}
 use Rattle.octets.specs.Parts.{part, put}
 use Rattle.octets.proofs.NumberLaws.{big-bigBytes, bigBytes-big, length-bigBytes, octets-bigBytes, put-big}
 use Rattle.hashes.specs.Widths.{Width, Eight}
-use Rattle.hashes.specs.Padding.{wordBytes, blockBytes, fieldBytes, zeroBytes, padded, wordsAt, block}
-use Rattle.hashes.specs.Compression.{compressed, afterBlocks, hashed}
+use Rattle.hashes.specs.Padding.{wordBytes, blockBytes, wordsAt, block}
+use Rattle.hashes.specs.Compression.{compressed, afterBlocks}
 use Rattle.hashes.specs.Progress.{Rounds}
 use Rattle.hashes.proofs.Rounds.{none-done}
 
@@ -37,7 +37,8 @@ module _ (P : Width) (s : List ℕ) (at : ℕ) where
   unfolding wordsAt
   load-none l = record { until = omega arith; room = l; words = refl }
 
-  pub load-more : {i x : ℕ} {W : List ℕ} → i < 16 → 16 ≤ P .rounds → Loading (P .rounds) W i → x ≡ big (part s (at + i * wordBytes P) (wordBytes P))
+  pub load-more : {i x : ℕ} {W : List ℕ} → i < 16 → 16 ≤ P .rounds → Loading (P .rounds) W i
+      → x ≡ big (part s (at + i * wordBytes P) (wordBytes P))
       → Loading (P .rounds) (set W i x) (i + 1)
   unfolding wordsAt
   load-more {i} {x} {W} l m h e =
@@ -65,7 +66,8 @@ wordsAt-append P s t at (suc n) l =
     let m : at + n * wordBytes P + wordBytes P ≤ length s = omega (arith, suc-mul n (wordBytes P)) in
     let d : wordBytes P ≤ length (drop (at + n * wordBytes P) s) = omega (arith, length-drop (at + n * wordBytes P) s) in
     ap₂ (λ (u : List ℕ) (b : List ℕ). u ++ (big b ∷ [])) (wordsAt-append P s t at n (omega arith))
-    (ap (take (wordBytes P)) (drop-append-le (at + n * wordBytes P) s t (omega arith)) ∙ take-append-le (wordBytes P) (drop (at + n * wordBytes P) s) t d)
+    (ap (take (wordBytes P)) (drop-append-le (at + n * wordBytes P) s t (omega arith))
+    ∙ take-append-le (wordBytes P) (drop (at + n * wordBytes P) s) t d)
 
 -- words behind k bytes
 wordsAt-drop : (P : Width) (s : List ℕ) (k at n : ℕ) → wordsAt P (drop k s) at n ≡ wordsAt P s (k + at) n
@@ -87,7 +89,8 @@ module _ (P : Width) where
   unfolding afterBlocks
   work-none H s n = record { until = omega arith; value = refl }
 
-  pub work-more : (H : Eight) (s : List ℕ) (n i : ℕ) {v r : Eight} → i < n → Working H s n v i → r ≡ compressed P v (block P s i) → Working H s n r (i + 1)
+  pub work-more : (H : Eight) (s : List ℕ) (n i : ℕ) {v r : Eight} → i < n → Working H s n v i → r ≡ compressed P v (block P s i)
+      → Working H s n r (i + 1)
   unfolding afterBlocks
   work-more H s n i l h e =
       record {
@@ -104,14 +107,16 @@ module _ (P : Width) where
   unfolding afterBlocks
   work-nothing H s e = sym (ap (afterBlocks P H s) e)
 
-  pub afterBlocks-append : (H : Eight) (s t : List ℕ) (i : ℕ) → i * blockBytes P ≤ length s → afterBlocks P H (s ++ t) i ≡ afterBlocks P H s i
+  pub afterBlocks-append : (H : Eight) (s t : List ℕ) (i : ℕ) → i * blockBytes P ≤ length s
+      → afterBlocks P H (s ++ t) i ≡ afterBlocks P H s i
   unfolding afterBlocks
   afterBlocks-append H s t zero l = refl
   afterBlocks-append H s t (suc i) l =
       let m : i * blockBytes P + blockBytes P ≤ length s = omega (arith, suc-mul i (blockBytes P)) in
       ap₂ (compressed P) (afterBlocks-append H s t i (omega arith)) (wordsAt-append P s t (i * blockBytes P) 16 m)
 
-  pub afterBlocks-drop : (H : Eight) (s : List ℕ) (i j : ℕ) → afterBlocks P (afterBlocks P H s i) (drop (i * blockBytes P) s) j ≡ afterBlocks P H s (i + j)
+  pub afterBlocks-drop : (H : Eight) (s : List ℕ) (i j : ℕ)
+      → afterBlocks P (afterBlocks P H s i) (drop (i * blockBytes P) s) j ≡ afterBlocks P H s (i + j)
   unfolding afterBlocks
   afterBlocks-drop H s i zero = ap (afterBlocks P H s) (sym (add-zero i))
   afterBlocks-drop H s i (suc j) =
@@ -119,12 +124,7 @@ module _ (P : Width) where
       (wordsAt-drop P s (i * blockBytes P) (j * blockBytes P) 16 ∙ ap (λ (k : ℕ). wordsAt P s k 16) (sym (add-mul i j (blockBytes P))))
       ∙ ap (afterBlocks P H s) (sym (add-suc i j))
 
--- ---- the last blocks
-
-pub drop-replicate : (k n a : ℕ) → drop k (replicate n a) ≡ replicate (n - k) a
-drop-replicate zero n a = ap (λ (j : ℕ). replicate j a) (sym (sub-zero n))
-drop-replicate (suc k) zero a = ap (λ (j : ℕ). replicate j a) (sym (zero-sub (suc k)))
-drop-replicate (suc k) (suc n) a = drop-replicate k n a ∙ ap (λ (j : ℕ). replicate j a) (sym (suc-sub-suc n k))
+-- ---- the length field
 
 bigBytes-mod : (n x : ℕ) → bigBytes n (x % 256 ^ n) ≡ bigBytes n x
 bigBytes-mod n x =
@@ -137,9 +137,11 @@ module _ (s : List ℕ) (at n : ℕ) where
       let f : n * 2 ^ 3 % 2 ^ 64 ≡ 8 * n % 256 ^ 8 = omega arith in
       e ∙ ap (put s at) (ap (bigBytes 8) f ∙ bigBytes-mod 8 (8 * n))
 
-  pub field-in-two : {t u : List ℕ} → at + 16 ≤ length s → t ≡ put s at (bigBytes 8 (n / 2 ^ 61)) → u ≡ put t (at + 8) (bigBytes 8 (n * 2 ^ 3 % 2 ^ 64))
+  pub field-in-two : {t u : List ℕ} → at + 16 ≤ length s → t ≡ put s at (bigBytes 8 (n / 2 ^ 61))
+      → u ≡ put t (at + 8) (bigBytes 8 (n * 2 ^ 3 % 2 ^ 64))
       → u ≡ put s at (bigBytes 16 (8 * n))
   field-in-two {t} {u} l e f =
       let high : n / 2 ^ 61 ≡ 8 * n / 256 ^ 8 = omega arith in
       let low : n * 2 ^ 3 % 2 ^ 64 ≡ 8 * n % 256 ^ 8 = omega arith in
-      put-big s t u at 8 (8 * n) l (e ∙ ap (λ (x : ℕ). put s at (bigBytes 8 x)) high) (f ∙ ap (λ (x : ℕ). put t (at + 8) (bigBytes 8 x)) low)
+      put-big s t u at 8 (8 * n) l (e ∙ ap (λ (x : ℕ). put s at (bigBytes 8 x)) high)
+      (f ∙ ap (λ (x : ℕ). put t (at + 8) (bigBytes 8 x)) low)

@@ -1,12 +1,13 @@
 -- Laws of a message that is fed piece by piece, over the width: one piece more, and the padding as its last pieces.
 use mathlib.Core.Path.{_≡_, refl, sym, ap, ap₂, _∙_, subst}
 use mathlib.Core.List.{List, [], _∷_, _++_, append-assoc}
-use Prim.Native.Nat.{ℕ, zero, suc, _+_, _-_, _*_, _/_, _%_, _^_, _≤_, _<_}
+use Prim.Native.Nat.{ℕ, suc, _+_, _-_, _*_, _/_, _%_, _^_, _≤_, _<_}
 use native.Mathlib.Nat.{add-mul, div-add-mod', div-eq-of-lt, div-mul-le-self, div-self, mod-add-mod, mod-eq-of-lt, mod-self}
 use native.Mathlib.Nat.{mul-add-div-right, mul-add-mod-self-right, one-mul, zero-div, zero-mod, zero-mul}
 use native.Mathlib.Numerals.{add-one}
 use native.Mathlib.Omega.{arith}
-use lib.ListN.{length, take, drop, set, replicate, length-append, length-drop, length-set, drop-of-length-le, length-replicate, replicate-append-replicate, take-append-drop}
+use lib.ListN.{length, take, drop, set, replicate, length-append, length-drop, length-set, drop-of-length-le, length-replicate}
+use lib.ListN.{replicate-append-replicate, take-append-drop}
 use lib.Seq.{drop-append-le, drop-drop, set-split, take-all, take-at}
 use Rattle.octets.specs.Numbers.{bigBytes}
 use Rattle.octets.specs.Parts.{put}
@@ -150,7 +151,8 @@ module _ (P : Width) (some : 0 < wordBytes P) (H : Eight) where
           ∙ afterBlocks-append P v wait (drop (r + length p) pending) 1 (omega (arith, one-mul (blockBytes P), full))
           ∙ ap (afterBlocks P v wait) (sym one))
           (ap (λ (m : ℕ). take m kept) (ap (λ (m : ℕ). m % blockBytes P) full ∙ mod-self (blockBytes P))
-          ∙ sym (drop-of-length-le wait {i = length wait / blockBytes P * blockBytes P} (omega (arith, ap (λ (m : ℕ). m * blockBytes P) one, one-mul (blockBytes P), full))))
+          ∙ sym (drop-of-length-le wait {i = length wait / blockBytes P * blockBytes P}
+          (omega (arith, ap (λ (m : ℕ). m * blockBytes P) one, one-mul (blockBytes P), full))))
           en
         where
           full : length wait ≡ blockBytes P
@@ -178,7 +180,8 @@ module _ (P : Width) (some : 0 < wordBytes P) (H : Eight) {v : Eight} {pending x
       all : y ++ field ≡ padded P x
       all =
           ap (λ (s : List ℕ). s ++ field) (ey ∙ ap (λ (m : ℕ). x ++ (0x80 ∷ replicate m 0)) ez)
-          ∙ ap (λ (m : ℕ). x ++ (0x80 ∷ replicate (zeroBytes P (length x)) 0) ++ bigBytes (fieldBytes P) (8 * m)) (h .count ∙ mod-eq-of-lt l)
+          ∙ ap (λ (m : ℕ). x ++ (0x80 ∷ replicate (zeroBytes P (length x)) 0) ++ bigBytes (fieldBytes P) (8 * m))
+          (h .count ∙ mod-eq-of-lt l)
 
   -- in the pending block, where the field has room behind the byte 0x80
   pub padded-in-one : {u : Eight} {marked full : List ℕ} (r at z : ℕ) → r ≡ length x % blockBytes P → z ≡ zeroBytes P (length x)
@@ -193,13 +196,15 @@ module _ (P : Width) (some : 0 < wordBytes P) (H : Eight) {v : Eight} {pending x
       mark = 0x80 ∷ replicate z 0
 
   -- in the pending block and one more
-  pub padded-in-two : {w u : Eight} {first second full : List ℕ} (r at y z : ℕ) → r ≡ length x % blockBytes P → y + suc z ≡ zeroBytes P (length x)
+  pub padded-in-two : {w u : Eight} {first second full : List ℕ} (r at y z : ℕ) → r ≡ length x % blockBytes P
+      → y + suc z ≡ zeroBytes P (length x)
       → 0 ≡ (length x + 1 + y) % blockBytes P → at ≡ (length x + 1 + y + 1 + z) % blockBytes P → r + 1 + y ≡ blockBytes P
       → at + fieldBytes P ≡ blockBytes P → 1 + z < blockBytes P → first ≡ put pending r (0x80 ∷ replicate y 0) → w ≡ afterBlocks P v first 1
       → second ≡ put first 0 (0 ∷ replicate z 0) → full ≡ put second at (bigBytes (fieldBytes P) (8 * n)) → u ≡ afterBlocks P w full 1
       → u ≡ hashed P H x
   padded-in-two {w} {u} {first} {second} {full} r at y z er ez e0 ea lr ef lz ey ew es efull eu =
-      closed begun joined ez (ea ∙ ap (λ (m : ℕ). m % blockBytes P) (omega (arith, length-both, length-append (x ++ mark) zeros, length-replicate {A = ℕ} z 0))) ef
+      closed begun joined ez
+      (ea ∙ ap (λ (m : ℕ). m % blockBytes P) (omega (arith, length-both, length-append (x ++ mark) zeros, length-replicate {A = ℕ} z 0))) ef
       efull eu
     where
       mark : List ℕ
@@ -216,7 +221,8 @@ module _ (P : Width) (some : 0 < wordBytes P) (H : Eight) {v : Eight} {pending x
 
       begun : Streamed P H w second (((n + length mark) % 2 ^ 64 + length zeros) % 2 ^ 64) (x ++ mark ++ zeros)
       begun =
-          fed-open P some H filled zeros (e0 ∙ ap (λ (m : ℕ). m % blockBytes P) (sym length-both)) es refl (omega (arith, length-replicate {A = ℕ} z 0))
+          fed-open P some H filled zeros (e0 ∙ ap (λ (m : ℕ). m % blockBytes P) (sym length-both)) es refl
+          (omega (arith, length-replicate {A = ℕ} z 0))
 
       joined : x ++ mark ++ zeros ≡ x ++ (0x80 ∷ replicate (y + suc z) 0)
       joined = append-assoc x mark zeros ∙ ap (λ (s : List ℕ). x ++ (0x80 ∷ s)) (replicate-append-replicate y (suc z) 0)

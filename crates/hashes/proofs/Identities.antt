@@ -1,13 +1,14 @@
--- Laws of the operations on words of w bits: their bounds, and the shorter forms in which code may compute them.
+-- Laws of the operations on words of w bits: the shorter forms in which code may compute them.
 use mathlib.Core.Path.{_≡_, refl, sym, ap, ap₂, _∙_}
 use Prim.Native.Nat.{ℕ, zero, suc, _+_, _-_, _*_, _/_, _%_, _^_, _≤_, _<_}
-use native.Mathlib.Nat.{add-assoc, add-comm, add-mul, add-sub-of-le, add-zero, div-add-mod', lt-of-le-of-lt, mod-add-mod, add-mod-mod, mod-lt, mul-assoc, mul-add-div-right, mul-add-mod-self-right, mul-div-cancel, mul-mod-left, sub-add-cancel, pow-suc, zero-lt-suc}
+use native.Mathlib.Nat.{add-assoc, add-comm, add-mul, add-sub-of-le, add-zero, div-add-mod', lt-of-le-of-lt, mod-lt, mul-assoc}
+use native.Mathlib.Nat.{mul-add-div-right, mul-add-mod-self-right, mul-div-cancel, mul-mod-left, sub-add-cancel, pow-suc, zero-lt-suc}
 use mathlib.Core.List.{List, [], _∷_}
 use native.Mathlib.Omega.{arith}
 use lib.Arith.{lt-one}
-use lib.Bits.{bitAnd, bitOr, bitXor, and-le-r, and-mod, and-shr, or-lt, or-shifted-r, xor-block, xor-lt, xor-mod, xor-shr}
+use lib.Bits.{bitAnd, bitOr, bitXor, and-mod, and-shr, or-lt, or-shifted-r, xor-block, xor-lt, xor-mod, xor-shr}
 use lib.Pow.{mod-pow-add, pow-add, pow-pos, shr-le, shr-lt, shr-shr}
-use Rattle.hashes.specs.Words.{add, shr, shl, rotr, complement, ch, maj, Amounts, bigSigma, smallSigma}
+use Rattle.hashes.specs.Words.{shr, shl, rotr, complement, ch, maj, Amounts, bigSigma, smallSigma}
 
 -- ---- rotation
 
@@ -37,16 +38,13 @@ module _ (w n : ℕ) (l : n ≤ w) where
   rotr-digits : (x : ℕ) → x < 2 ^ w → rotr w n x ≡ (x % 2 ^ n) * 2 ^ (w - n) + x / 2 ^ n
   rotr-digits x h = ap (λ (v : ℕ). rotr v n x) (sym (sub-add-cancel l)) ∙ rotr-parts (w - n) n x (above x h)
 
-  -- the ∨ of a rotation is a sum
-  pub rotr-sum : (x : ℕ) → x < 2 ^ w → rotr w n x ≡ x / 2 ^ n + (x % 2 ^ n) * 2 ^ (w - n)
-  rotr-sum x h = rotr-digits x h ∙ add-comm ((x % 2 ^ n) * 2 ^ (w - n)) (x / 2 ^ n)
-
   -- a rotation goes through ⊕
   pub rotr-xor : (x y : ℕ) → x < 2 ^ w → y < 2 ^ w → rotr w n (bitXor x y) ≡ bitXor (rotr w n x) (rotr w n y)
   rotr-xor x y h k =
       rotr-digits (bitXor x y) (xor-lt w x y h k)
       ∙ ap₂ (λ (s t : ℕ). s * 2 ^ (w - n) + t) (xor-mod x y n) (xor-shr x y n)
-      ∙ sym (xor-block (w - n) (x % 2 ^ n) (y % 2 ^ n) (x / 2 ^ n) (y / 2 ^ n) (shr-lt (w - n) n (above x h)) (shr-lt (w - n) n (above y k)))
+      ∙ sym (xor-block (w - n) (x % 2 ^ n) (y % 2 ^ n) (x / 2 ^ n) (y / 2 ^ n) (shr-lt (w - n) n (above x h))
+      (shr-lt (w - n) n (above y k)))
       ∙ ap₂ bitXor (sym (rotr-digits x h)) (sym (rotr-digits y k))
 
 -- two rotations are one
@@ -116,7 +114,8 @@ module _ (F G : ℕ → ℕ → ℕ → ℕ → ℕ) (f : BitByBit F) (g : BitBy
       sym (div-add-mod' (F (suc k) x y z) 2)
       ∙ ap₂ (λ (s t : ℕ). s * 2 + t)
       (f k x y z hx .0 ∙ same-words k (x / 2) (y / 2) (z / 2) (half k x hx) (half k y hy) (half k z hz) ∙ sym (g k x y z hx .0))
-      (f k x y z hx .1 ∙ same-bits (x % 2) (y % 2) (z % 2) (mod-lt x (zero-lt-suc 1)) (mod-lt y (zero-lt-suc 1)) (mod-lt z (zero-lt-suc 1)) ∙ sym (g k x y z hx .1))
+      (f k x y z hx .1 ∙ same-bits (x % 2) (y % 2) (z % 2) (mod-lt x (zero-lt-suc 1)) (mod-lt y (zero-lt-suc 1))
+      (mod-lt z (zero-lt-suc 1)) ∙ sym (g k x y z hx .1))
       ∙ div-add-mod' (G (suc k) x y z) 2
     where
       half : (k x : ℕ) → x < 2 ^ suc k → x / 2 < 2 ^ k
@@ -152,7 +151,8 @@ xor-assoc =
 
 pub ch-short : (w x y z : ℕ) → x < 2 ^ w → y < 2 ^ w → z < 2 ^ w → bitXor z (bitAnd x (bitXor y z)) ≡ ch w x y z
 ch-short =
-    same-words (λ k x y z. bitXor z (bitAnd x (bitXor y z))) ch (λ k x y z h. (simp halved, simp lowered)) (λ k x y z h. (simp halved, simp lowered)) refl
+    same-words (λ k x y z. bitXor z (bitAnd x (bitXor y z))) ch (λ k x y z h. (simp halved, simp lowered))
+    (λ k x y z h. (simp halved, simp lowered)) refl
 
 pub maj-short : (w x y z : ℕ) → x < 2 ^ w → y < 2 ^ w → z < 2 ^ w → bitXor (bitAnd (bitXor x y) (bitXor y z)) y ≡ maj x y z
 maj-short =
@@ -161,7 +161,8 @@ maj-short =
 
 -- ---- rotations by growing amounts, each made of the one before
 
-rotr-chained : (w a b x y : ℕ) → a ≤ b → b ≤ w → x < 2 ^ w → y < 2 ^ w → rotr w a (bitXor x (rotr w (b - a) y)) ≡ bitXor (rotr w a x) (rotr w b y)
+rotr-chained : (w a b x y : ℕ) → a ≤ b → b ≤ w → x < 2 ^ w → y < 2 ^ w
+    → rotr w a (bitXor x (rotr w (b - a) y)) ≡ bitXor (rotr w a x) (rotr w b y)
 rotr-chained w a b x y l m hx hy =
     rotr-xor w a (omega arith) x (rotr w (b - a) y) hx (rotr-lt w (b - a) y hy)
     ∙ ap (bitXor (rotr w a x)) (rotr-rotr w a (b - a) y (omega arith) hy ∙ ap (λ (n : ℕ). rotr w n y) (add-sub-of-le l))
@@ -173,42 +174,9 @@ module _ (w : ℕ) (n : Amounts) (x : ℕ) (h : x < 2 ^ w) where
       rotr-chained w (n .first) (n .second) x (bitXor x (rotr w (n .third - n .second) x)) l (omega arith) h
       (xor-lt w x (rotr w (n .third - n .second) x) h (rotr-lt w (n .third - n .second) x h))
       ∙ ap (bitXor (rotr w (n .first) x)) (rotr-chained w (n .second) (n .third) x x m o h h)
-      ∙ sym (xor-assoc w (rotr w (n .first) x) (rotr w (n .second) x) (rotr w (n .third) x) (rotr-lt w (n .first) x h) (rotr-lt w (n .second) x h) (rotr-lt w (n .third) x h))
+      ∙ sym (xor-assoc w (rotr w (n .first) x) (rotr w (n .second) x) (rotr w (n .third) x) (rotr-lt w (n .first) x h)
+      (rotr-lt w (n .second) x h) (rotr-lt w (n .third) x h))
 
   pub small-sigma-chained : n .first ≤ n .second → n .second ≤ w
       → bitXor (rotr w (n .first) (bitXor x (rotr w (n .second - n .first) x))) (shr (n .third) x) ≡ smallSigma w n x
   small-sigma-chained l m = ap (λ (s : ℕ). bitXor s (shr (n .third) x)) (rotr-chained w (n .first) (n .second) x x l m h h)
-
-  two-lt : bitXor (rotr w (n .first) x) (rotr w (n .second) x) < 2 ^ w
-  two-lt = xor-lt w (rotr w (n .first) x) (rotr w (n .second) x) (rotr-lt w (n .first) x h) (rotr-lt w (n .second) x h)
-
-  pub big-sigma-lt : bigSigma w n x < 2 ^ w
-  big-sigma-lt = xor-lt w (bitXor (rotr w (n .first) x) (rotr w (n .second) x)) (rotr w (n .third) x) two-lt (rotr-lt w (n .third) x h)
-
-  pub small-sigma-lt : smallSigma w n x < 2 ^ w
-  small-sigma-lt = xor-lt w (bitXor (rotr w (n .first) x) (rotr w (n .second) x)) (shr (n .third) x) two-lt (shr-bound w (n .third) x h)
-
--- ---- bounds of the choices
-
-module _ (w x y z : ℕ) where
-  pub ch-lt : y < 2 ^ w → z < 2 ^ w → ch w x y z < 2 ^ w
-  ch-lt hy hz = xor-lt w (bitAnd x y) (bitAnd (complement w x) z) (lt-of-le-of-lt (and-le-r x y) hy) (lt-of-le-of-lt (and-le-r (complement w x) z) hz)
-
-  pub maj-lt : y < 2 ^ w → z < 2 ^ w → maj x y z < 2 ^ w
-  maj-lt hy hz =
-      xor-lt w (bitXor (bitAnd x y) (bitAnd x z)) (bitAnd y z)
-      (xor-lt w (bitAnd x y) (bitAnd x z) (lt-of-le-of-lt (and-le-r x y) hy) (lt-of-le-of-lt (and-le-r x z) hz)) (lt-of-le-of-lt (and-le-r y z) hz)
-
--- ---- sums may be regrouped
-
-pub add-lt : (w x y : ℕ) → add w x y < 2 ^ w
-add-lt w x y = mod-lt (x + y) (pow-pos w)
-
-pub add-add : (w x y z : ℕ) → add w (add w x y) z ≡ (x + y + z) % 2 ^ w
-add-add w x y z = mod-add-mod (x + y) (2 ^ w) z
-
-pub add-commutes : (w x y : ℕ) → add w x y ≡ add w y x
-add-commutes w x y = ap (λ (s : ℕ). s % 2 ^ w) (add-comm x y)
-
-pub add-associates : (w x y z : ℕ) → add w (add w x y) z ≡ add w x (add w y z)
-add-associates w x y z = add-add w x y z ∙ ap (λ (s : ℕ). s % 2 ^ w) (add-assoc x y z) ∙ sym (add-mod-mod x (y + z) (2 ^ w))

@@ -1,6 +1,6 @@
 -- Laws of the schedule and the rounds of a block, over the width.
 use mathlib.Core.Path.{_≡_, refl, sym, ap, ap₂, _∙_, subst}
-use mathlib.Core.List.{List, [], _∷_, _++_}
+use mathlib.Core.List.{List, [], _∷_}
 use mathlib.Core.Logic.{_⊎_, ⊎-elim}
 use Prim.Native.Nat.{ℕ, zero, suc, _+_, _-_, _%_, _^_, _≤_, _<_}
 use native.Mathlib.Nat.{add-mod-mod, add-sub-of-le, add-suc, add-zero, eq-or-lt-of-le, mod-add-mod}
@@ -8,7 +8,7 @@ use native.Mathlib.Numerals.{add-one}
 use native.Mathlib.Omega.{arith}
 use lib.ListN.{length, getD, take, set, length-append, length-set, List·getD-append}
 use lib.Seq.{getD-at, getD-take, getD-set-same, getD-set-other}
-use Rattle.hashes.specs.Words.{add, ch, maj, bigSigma, smallSigma}
+use Rattle.hashes.specs.Words.{add, ch, bigSigma, smallSigma}
 use Rattle.hashes.specs.Widths.{Width, Eight}
 use Rattle.hashes.specs.Compression.{mixed, nextWord, withNext, scheduled, schedule, T₁, T₂, round, afterRounds, summed, compressed}
 use Rattle.hashes.specs.Progress.{Rounds, Leads}
@@ -30,7 +30,8 @@ T₁-of P K W v ex ey ep ez eq er =
 pub round-of : (P : Width) (K W : ℕ) (v : Eight) {x y p q : ℕ} → x ≡ T₁ P K W v → y ≡ T₂ P v → p ≡ add (P .w) x y → q ≡ add (P .w) (v .d) x
     → _≡_ {A = Eight} (record { a = p; b = v .a; c = v .b; d = v .c; e = q; f = v .e; g = v .f; h = v .g }) (round P K W v)
 unfolding round
-round-of P K W v {x} {y} {p} {q} ex ey ep eq = λ i. record { a = first i; b = v .a; c = v .b; d = v .c; e = second i; f = v .e; g = v .f; h = v .g }
+round-of P K W v {x} {y} {p} {q} ex ey ep eq =
+    λ i. record { a = first i; b = v .a; c = v .b; d = v .c; e = second i; f = v .e; g = v .f; h = v .g }
   where
     first : p ≡ add (P .w) (T₁ P K W v) (T₂ P v)
     first = ep ∙ ap₂ (add (P .w)) ex ey
@@ -47,7 +48,8 @@ unfolding summed
 summed-of P v H a b c d e f g h = λ i. record { a = a i; b = b i; c = c i; d = d i; e = e i; f = f i; g = g i; h = h i }
 
 -- the schedule's next word, of its sums
-pub mixed-of : (P : Width) (x y z u : ℕ) {s p t q r : ℕ} → s ≡ smallSigma (P .w) (P .σ₁) x → p ≡ add (P .w) s y → t ≡ smallSigma (P .w) (P .σ₀) z
+pub mixed-of : (P : Width) (x y z u : ℕ) {s p t q r : ℕ} → s ≡ smallSigma (P .w) (P .σ₁) x → p ≡ add (P .w) s y
+    → t ≡ smallSigma (P .w) (P .σ₀) z
     → q ≡ add (P .w) p t → r ≡ add (P .w) q u → r ≡ mixed P x y z u
 mixed-of P x y z u es ep et eq er =
     er ∙ ap (λ (n : ℕ). add (P .w) n u) (eq ∙ ap₂ (add (P .w)) (ep ∙ ap (λ (n : ℕ). add (P .w) n y) es) et)
@@ -59,7 +61,10 @@ module _ (P : Width) (M : List ℕ) (sixteen : length M ≡ 16) where
   unfolding scheduled withNext
   length-scheduled zero = sixteen
   length-scheduled (suc t) =
-      length-append (scheduled P M t) (nextWord P (scheduled P M t) t ∷ []) ∙ ap (λ (n : ℕ). n + 1) (length-scheduled t) ∙ add-one (16 + t) ∙ sym (add-suc 16 t)
+      length-append (scheduled P M t) (nextWord P (scheduled P M t) t ∷ [])
+      ∙ ap (λ (n : ℕ). n + 1) (length-scheduled t)
+      ∙ add-one (16 + t)
+      ∙ sym (add-suc 16 t)
 
   -- a word that is there stays
   kept : (t n j : ℕ) → j < 16 + t → getD (scheduled P M (t + n)) j 0 ≡ getD (scheduled P M t) j 0
@@ -67,7 +72,8 @@ module _ (P : Width) (M : List ℕ) (sixteen : length M ≡ 16) where
   kept t zero j h = ap (λ (k : ℕ). getD (scheduled P M k) j 0) (add-zero t)
   kept t (suc n) j h =
       ap (λ (k : ℕ). getD (scheduled P M k) j 0) (add-suc t n)
-      ∙ List·getD-append (scheduled P M (t + n)) (nextWord P (scheduled P M (t + n)) (t + n) ∷ []) 0 j (omega (arith, length-scheduled (t + n)))
+      ∙ List·getD-append (scheduled P M (t + n)) (nextWord P (scheduled P M (t + n)) (t + n) ∷ []) 0 j
+      (omega (arith, length-scheduled (t + n)))
       ∙ kept t n j h
 
   in-schedule : (t j : ℕ) → t ≤ P .rounds - 16 → j < 16 + t → getD (schedule P M) j 0 ≡ getD (scheduled P M t) j 0
@@ -126,6 +132,9 @@ module _ (P : Width) (H : Eight) (M : List ℕ) where
         words = λ j a b. ⊎-elim (λ q. at j q) (λ q. before j q b) (here-or-before j a);
       }
     where
+      word : (j : ℕ) → j < t + 16 → getD W j 0 ≡ getD (schedule P M) j 0
+      word j a = h .words j a (omega arith)
+
       here-or-before : (j : ℕ) → j < t + 1 + 16 → (j ≡ t + 16) ⊎ (j < t + 16)
       here-or-before j a = eq-or-lt-of-le (omega arith)
 
@@ -134,7 +143,7 @@ module _ (P : Width) (H : Eight) (M : List ℕ) where
           ap (λ (k : ℕ). getD (set W (t + 16) x) k 0) q
           ∙ getD-set-same W (t + 16) x 0 (omega (arith, h .room))
           ∙ n
-          ∙ (rw (h .words (t + 14) (omega arith) (omega arith), h .words (t + 9) (omega arith) (omega arith), h .words (t + 1) (omega arith) (omega arith), h .words t (omega arith) (omega arith)))
+          ∙ (rw (word (t + 14) (omega arith), word (t + 9) (omega arith), word (t + 1) (omega arith), word t (omega arith)))
           ∙ sym (schedule-next P M (h .sixteen) t l)
           ∙ ap (λ (k : ℕ). getD (schedule P M) k 0) (sym q)
 

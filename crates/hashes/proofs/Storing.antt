@@ -1,12 +1,13 @@
 -- Laws of the bytes of a hash value, over the width, and of the digests that are cut from them.
-use mathlib.Core.Path.{_≡_, refl, sym, ap, ap₂, _∙_}
-use mathlib.Core.List.{List, [], _∷_, _++_, append-assoc, append-nil}
+use mathlib.Core.Path.{_≡_, sym, ap, ap₂, _∙_}
+use mathlib.Core.List.{List, _++_, append-nil}
 use Prim.Native.Nat.{ℕ, zero, suc, _+_, _-_, _*_, _≤_, _<_}
-use native.Mathlib.Nat.{add-mul, add-sub-of-le, add-suc, add-zero, le-trans, mul-le-mul-right, suc-mul, zero-mul}
+use native.Mathlib.Nat.{add-mul, add-sub-of-le, add-suc, add-zero, le-trans, mul-le-mul-right, sub-zero}
+use native.Mathlib.Nat.{suc-mul, suc-sub-suc, zero-mul, zero-sub}
 use native.Mathlib.Numerals.{add-one}
 use native.Mathlib.Omega.{arith}
 use lib.ListN.{length, getD, take, drop, replicate, length-append, length-replicate, drop-of-length-le}
-use lib.Seq.{drop-append-add, length-take-le, take-all, take-append-le, take-append-seam, take-at}
+use lib.Seq.{drop-append-add, length-take-le, take-all, take-append-le, take-at}
 use Rattle.octets.specs.Numbers.{bigBytes}
 use Rattle.octets.specs.Parts.{put, Octets}
 use Rattle.octets.proofs.NumberLaws.{length-bigBytes, octets-bigBytes}
@@ -14,8 +15,18 @@ use Rattle.octets.proofs.PartLaws.{octets-append, octets-take}
 use Rattle.hashes.specs.Widths.{Width, Eight, Hash, inOrder}
 use Rattle.hashes.specs.Padding.{wordBytes}
 use Rattle.hashes.specs.Compression.{hashed, joined, sha2}
-use Rattle.hashes.specs.Code.{inSixtyFour}
-use Rattle.hashes.proofs.Blocks.{drop-replicate}
+use Rattle.hashes.specs.Code.{inSixtyFour, firstWords}
+
+drop-replicate : (k n a : ℕ) → drop k (replicate n a) ≡ replicate (n - k) a
+drop-replicate zero n a = ap (λ (j : ℕ). replicate j a) (sym (sub-zero n))
+drop-replicate (suc k) zero a = ap (λ (j : ℕ). replicate j a) (sym (zero-sub (suc k)))
+drop-replicate (suc k) (suc n) a = drop-replicate k n a ∙ ap (λ (j : ℕ). replicate j a) (sym (suc-sub-suc n k))
+
+-- bytes and the zeros behind them are 64
+pub length-inSixtyFour : (s : List ℕ) → length s ≤ 64 → length (inSixtyFour s) ≡ 64
+length-inSixtyFour s l =
+    let n : ℕ = 64 - length s in
+    omega (arith, length-append s (replicate n 0), length-replicate {A = ℕ} n 0)
 
 -- 64 bytes, zeros put over all of them
 pub zeros-in-sixty-four : (out : List ℕ) → length out ≡ 64 → put out 0 (replicate 64 0) ≡ replicate 64 0
@@ -40,7 +51,8 @@ module _ (P : Width) (ws : List ℕ) where
   take-joined : (n k : ℕ) → take (n * wordBytes P) (joined P ws (n + k)) ≡ joined P ws n
   unfolding joined
   take-joined n zero =
-      ap (λ (j : ℕ). take (n * wordBytes P) (joined P ws j)) (add-zero n) ∙ take-all (n * wordBytes P) (joined P ws n) (omega (arith, length-joined n))
+      ap (λ (j : ℕ). take (n * wordBytes P) (joined P ws j)) (add-zero n)
+      ∙ take-all (n * wordBytes P) (joined P ws n) (omega (arith, length-joined n))
   take-joined n (suc k) =
       ap (λ (j : ℕ). take (n * wordBytes P) (joined P ws j)) (add-suc n k)
       ∙ take-append-le (n * wordBytes P) (joined P ws (n + k)) (bigBytes (wordBytes P) (getD ws (n + k) 0))
@@ -107,8 +119,7 @@ module _ (P : Width) (ws : List ℕ) where
           ∙ ap₂ (λ (s t : List ℕ). s ++ word ++ t) (take-at before zeros (i * v) (length-joined i)) behind
 
       length-sixty-four : length (inSixtyFour (before ++ word)) ≡ 64
-      length-sixty-four =
-          omega (arith, length-append (before ++ word) (replicate (64 - length (before ++ word)) 0), length-replicate {A = ℕ} (64 - length (before ++ word)) 0, length-both, fits)
+      length-sixty-four = length-inSixtyFour (before ++ word) (omega (arith, length-both, fits))
 
   pub store-all : (n i : ℕ) {out : List ℕ} → n ≤ i → Storing n out i → out ≡ inSixtyFour (joined P ws n)
   store-all n i l s =
@@ -120,7 +131,7 @@ module _ (P : Width) (ws : List ℕ) where
 module _ (X : Hash) (m : List ℕ) where
   -- of the first n words of the message's hash value
   pub sha2-of : (n : ℕ) → n ≤ 8 → X .bytes ≡ n * wordBytes (X .width) → {u : Eight} {r : List ℕ} → u ≡ X .initial
-      → r ≡ inSixtyFour (joined (X .width) (inOrder (hashed (X .width) u m)) n) → r ≡ inSixtyFour (sha2 X m)
+      → r ≡ firstWords (X .width) (hashed (X .width) u m) n → r ≡ inSixtyFour (sha2 X m)
   unfolding sha2
   sha2-of n l b {u} {r} eu er =
       er

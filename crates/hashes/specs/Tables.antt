@@ -69,15 +69,45 @@ wide =
 
 -- 5.3.3
 unfoldable pub initial256 : Eight
-initial256 = record { a = 0x6a09e667; b = 0xbb67ae85; c = 0x3c6ef372; d = 0xa54ff53a; e = 0x510e527f; f = 0x9b05688c; g = 0x1f83d9ab; h = 0x5be0cd19 }
+initial256 =
+    record {
+      a = 0x6a09e667;
+      b = 0xbb67ae85;
+      c = 0x3c6ef372;
+      d = 0xa54ff53a;
+      e = 0x510e527f;
+      f = 0x9b05688c;
+      g = 0x1f83d9ab;
+      h = 0x5be0cd19;
+    }
 
 -- 5.3.4
 unfoldable pub initial384 : Eight
-initial384 = record { a = 0xcbbb9d5dc1059ed8; b = 0x629a292a367cd507; c = 0x9159015a3070dd17; d = 0x152fecd8f70e5939; e = 0x67332667ffc00b31; f = 0x8eb44a8768581511; g = 0xdb0c2e0d64f98fa7; h = 0x47b5481dbefa4fa4 }
+initial384 =
+    record {
+      a = 0xcbbb9d5dc1059ed8;
+      b = 0x629a292a367cd507;
+      c = 0x9159015a3070dd17;
+      d = 0x152fecd8f70e5939;
+      e = 0x67332667ffc00b31;
+      f = 0x8eb44a8768581511;
+      g = 0xdb0c2e0d64f98fa7;
+      h = 0x47b5481dbefa4fa4;
+    }
 
 -- 5.3.5
 unfoldable pub initial512 : Eight
-initial512 = record { a = 0x6a09e667f3bcc908; b = 0xbb67ae8584caa73b; c = 0x3c6ef372fe94f82b; d = 0xa54ff53a5f1d36f1; e = 0x510e527fade682d1; f = 0x9b05688c2b3e6c1f; g = 0x1f83d9abfb41bd6b; h = 0x5be0cd19137e2179 }
+initial512 =
+    record {
+      a = 0x6a09e667f3bcc908;
+      b = 0xbb67ae8584caa73b;
+      c = 0x3c6ef372fe94f82b;
+      d = 0xa54ff53a5f1d36f1;
+      e = 0x510e527fade682d1;
+      f = 0x9b05688c2b3e6c1f;
+      g = 0x1f83d9abfb41bd6b;
+      h = 0x5be0cd19137e2179;
+    }
 
 -- 6.2: 32 bytes out
 abbrev pub SHA2-256 : Hash

@@ -1,4 +1,5 @@
-// Writes the digests of known messages, one to a line: hash, message, digest in hexadecimal. Of a message named `..-by-N` the digest is made of pieces of N bytes.
+// Writes the digests of known messages, one to a line: hash, message, digest in hexadecimal.
+// A message whose name ends in `-by-N` is fed in pieces of N bytes.
 ghost use Prim.Native.Nat.{_≤_};
 
 fn main() {

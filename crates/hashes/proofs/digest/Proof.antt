@@ -10,17 +10,20 @@ use Rattle.hashes.proofs.digest.Tie as tie
 returns : tie.Need-returns
 returns c =
     let b = c .before .before in
-    answer-by _ (has-2 (b .before .match .keys1)) _ (sha2-of SHA2-256 _ 8 (omega arith) (omega arith) (b .initial-256 .ensures) (c .digest .ensures)) refl
+    answer-by _ (has-2 (b .before .match .keys1)) _
+    (sha2-of SHA2-256 _ 8 (omega arith) (omega arith) (b .initial-256 .ensures) (c .digest .ensures)) refl
 
 returns-2 : tie.Need-returns-2
 returns-2 c =
     let b = c .before .before in
-    answer-by _ (has-3 (b .before .match .keys2)) _ (sha2-of SHA2-384 _ 6 (omega arith) (omega arith) (b .initial-384 .ensures) (c .digest2 .ensures)) refl
+    answer-by _ (has-3 (b .before .match .keys2)) _
+    (sha2-of SHA2-384 _ 6 (omega arith) (omega arith) (b .initial-384 .ensures) (c .digest2 .ensures)) refl
 
 returns-3 : tie.Need-returns-3
 returns-3 c =
     let b = c .before .before in
-    answer-by _ (has-4 (b .before .match .keys3)) _ (sha2-of SHA2-512 _ 8 (omega arith) (omega arith) (b .initial-512 .ensures) (c .digest3 .ensures)) refl
+    answer-by _ (has-4 (b .before .match .keys3)) _
+    (sha2-of SHA2-512 _ 8 (omega arith) (omega arith) (b .initial-512 .ensures) (c .digest3 .ensures)) refl
 
 returns-4 : tie.Need-returns-4
 returns-4 c =

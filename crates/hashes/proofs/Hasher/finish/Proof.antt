@@ -31,10 +31,12 @@ returns-4 c =
     let none = c .before .before in
     let a = none .before .before .before .args in
     answer-by i
-    (has-none (λ e. none .match .rest .0 .0 .1 (f .begun ∙ e)) (λ e. none .match .rest .0 .1 (f .begun ∙ e)) (λ e. none .match .rest .1 (f .begun ∙ e))) x
+    (has-none (λ e. none .match .rest .0 .0 .1 (f .begun ∙ e)) (λ e. none .match .rest .0 .1 (f .begun ∙ e))
+    (λ e. none .match .rest .1 (f .begun ∙ e))) x
     (c .fill .ensures ∙ zeros-in-sixty-four (a .out .now) (search needs)) refl
 
 pub finish-spec : {M : Type 1} → statement M
 finish-spec =
     tie.close
-    (tie.spec (λ c κs. search needs) (λ c κs. search needs) (λ c κs. search needs) (λ c κs. search needs) returns returns-2 returns-3 returns-4)
+    (tie.spec (λ c κs. search needs) (λ c κs. search needs) (λ c κs. search needs)
+    (λ c κs. search needs) returns returns-2 returns-3 returns-4)

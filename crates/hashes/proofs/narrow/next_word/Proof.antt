@@ -6,9 +6,9 @@ use Rattle.hashes.proofs.narrow.next_word.Tie as tie
 
 returns : tie.Need-returns
 returns c =
-    mixed-of narrow (c .before .before .before .before .before .args .x) (c .before .before .before .before .before .args .y)
-    (c .before .before .before .before .before .args .z) (c .before .before .before .before .before .args .u)
-    (c .before .before .before .before .small-sigma-1 .ensures) (c .before .before .before .wrapping-add-u32 .ensures)
+    let first = c .before .before .before .before in
+    let a = first .before .args in
+    mixed-of narrow (a .x) (a .y) (a .z) (a .u) (first .small-sigma-1 .ensures) (c .before .before .before .wrapping-add-u32 .ensures)
     (c .before .before .small-sigma-0 .ensures) (c .before .wrapping-add-u322 .ensures) (c .wrapping-add-u323 .ensures)
 
 pub next-word-spec : {M : Type 1} → statement M

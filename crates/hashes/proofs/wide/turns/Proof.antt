@@ -6,12 +6,21 @@ use Rattle.hashes.proofs.wide.turns.Tie as tie
 
 returns : tie.Need-returns
 returns c =
-    four wide _ (c .before .before .before .before .before .before .turn .ensures) (c .before .before .before .before .turn2 .ensures)
-    (c .before .before .turn3 .ensures) (c .turn4 .ensures)
+    let second = c .before .before .before .before in
+    four wide _ (second .before .before .turn .ensures) (second .turn2 .ensures) (c .before .before .turn3 .ensures) (c .turn4 .ensures)
+
+third : tie.Need-turn-requires-3
+third c κs =
+    let second = c .before .before in
+    (omega arith, second .before .before .before .pre .1)
+
+fourth : tie.Need-turn-requires-4
+fourth c κs =
+    let second = c .before .before .before .before in
+    (omega arith, second .before .before .before .pre .1)
 
 pub turns-spec : {M : Type 1} → statement M
 turns-spec =
     tie.close
     (tie.spec (λ c κs. (omega arith, c .before .pre .1)) (λ c. omega arith) (λ c κs. (omega arith, c .before .before .before .pre .1))
-    (λ c. omega arith) (λ c κs. (omega arith, c .before .before .before .before .before .pre .1)) (λ c. omega arith)
-    (λ c κs. (omega arith, c .before .before .before .before .before .before .before .pre .1)) returns)
+    (λ c. omega arith) third (λ c. omega arith) fourth returns)

@@ -8,11 +8,12 @@ use Rattle.hashes.proofs.narrow.State.block.Tie as tie
 
 returns : tie.Need-returns
 returns c =
-    let b = c .before .before .before .before .before .before .before .before .args in
-    let H = narrowWords (b .self) in
-    let M = wordsAt narrow (b .bytes .now) (b .at) 16 in
-    all-done narrow H M
-    (c .before .late-rounds .ensures H M (c .before .before .before .early-rounds .ensures H M (c .before .before .before .before .before .load .ensures H)))
+    let early = c .before .before .before in
+    let loaded = early .before .before in
+    let a = loaded .before .before .before .args in
+    let H = narrowWords (a .self) in
+    let M = wordsAt narrow (a .bytes .now) (a .at) 16 in
+    all-done narrow H M (c .before .late-rounds .ensures H M (early .early-rounds .ensures H M (loaded .load .ensures H)))
     (c .plus .ensures)
 
 pub block-spec : {M : Type 1} → statement M

@@ -7,10 +7,11 @@ use Rattle.hashes.proofs.narrow.State.t1.Tie as tie
 
 returns : tie.Need-returns
 returns c =
-    T₁-of narrow _ _ (narrowWords (c .before .before .before .before .before .before .args .self))
-    (c .before .before .before .before .before .wrapping-add-u32 .ensures) (c .before .before .before .before .wrapping-add-u322 .ensures)
-    (c .before .before .before .choice .ensures) (c .before .before .wrapping-add-u323 .ensures)
-    (c .before .big-sigma-1 .ensures) (c .wrapping-add-u324 .ensures)
+    let second = c .before .before .before .before in
+    T₁-of narrow _ _ (narrowWords (second .before .before .args .self)) (second .before .wrapping-add-u32 .ensures)
+    (second .wrapping-add-u322 .ensures)
+    (c .before .before .before .choice .ensures) (c .before .before .wrapping-add-u323 .ensures) (c .before .big-sigma-1 .ensures)
+    (c .wrapping-add-u324 .ensures)
 
 pub t1-spec : {M : Type 1} → statement M
 t1-spec =

@@ -7,13 +7,12 @@ use Rattle.hashes.proofs.wide.State.plus.Tie as tie
 
 returns : tie.Need-returns
 returns c =
-    summed-of wide (wideWords (c .before .before .before .before .before .before .before .before .args .self))
-    (wideWords (c .before .before .before .before .before .before .before .before .args .to))
-    (c .before .before .before .before .before .before .before .wrapping-add-u64 .ensures)
-    (c .before .before .before .before .before .before .wrapping-add-u642 .ensures)
-    (c .before .before .before .before .before .wrapping-add-u643 .ensures) (c .before .before .before .before .wrapping-add-u644 .ensures)
-    (c .before .before .before .wrapping-add-u645 .ensures) (c .before .before .wrapping-add-u646 .ensures)
-    (c .before .wrapping-add-u647 .ensures) (c .wrapping-add-u648 .ensures)
+    let half = c .before .before .before .before in
+    let a = half .before .before .before .before .args in
+    summed-of wide (wideWords (a .self)) (wideWords (a .to)) (half .before .before .before .wrapping-add-u64 .ensures)
+    (half .before .before .wrapping-add-u642 .ensures)
+    (half .before .wrapping-add-u643 .ensures) (half .wrapping-add-u644 .ensures) (c .before .before .before .wrapping-add-u645 .ensures)
+    (c .before .before .wrapping-add-u646 .ensures) (c .before .wrapping-add-u647 .ensures) (c .wrapping-add-u648 .ensures)
 
 pub plus-spec : {M : Type 1} → statement M
 plus-spec =

@@ -7,10 +7,11 @@ use Rattle.hashes.proofs.wide.State.t1.Tie as tie
 
 returns : tie.Need-returns
 returns c =
-    T₁-of wide _ _ (wideWords (c .before .before .before .before .before .before .args .self))
-    (c .before .before .before .before .before .wrapping-add-u64 .ensures) (c .before .before .before .before .wrapping-add-u642 .ensures)
-    (c .before .before .before .choice .ensures) (c .before .before .wrapping-add-u643 .ensures)
-    (c .before .big-sigma-1 .ensures) (c .wrapping-add-u644 .ensures)
+    let second = c .before .before .before .before in
+    T₁-of wide _ _ (wideWords (second .before .before .args .self)) (second .before .wrapping-add-u64 .ensures)
+    (second .wrapping-add-u642 .ensures)
+    (c .before .before .before .choice .ensures) (c .before .before .wrapping-add-u643 .ensures) (c .before .big-sigma-1 .ensures)
+    (c .wrapping-add-u644 .ensures)
 
 pub t1-spec : {M : Type 1} → statement M
 t1-spec =

@@ -7,8 +7,9 @@ use Rattle.hashes.proofs.wide.Stream.filled.Tie as tie
 
 returns : tie.Need-returns
 returns c =
-    let kept = c .before .before .before .before .before in
-    λ H x e h. fed-full wide (omega arith) H h _ e (kept .keep .ensures) (c .wrapping-add-u64 .ensures) (search needs) (c .before .one .ensures)
+    let lent = c .before .before .before .before in
+    λ H x e h. fed-full wide (omega arith) H h _ e (lent .before .keep .ensures) (c .wrapping-add-u64 .ensures) (search needs)
+    (c .before .one .ensures)
 
 pub filled-spec : {M : Type 1} → statement M
 filled-spec = tie.close (tie.spec (λ c κs. search needs) (λ c κs. search needs) (λ c κs. search needs) returns)

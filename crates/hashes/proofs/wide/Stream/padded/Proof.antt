@@ -11,8 +11,8 @@ returns c =
     let closed = c .before .before .before .before in
     let marked = closed .before .before in
     let r : ℕ = marked .before .before .before .args .t1 .length % 128 in
-    λ H x l h. padded-in-one wide (omega arith) H h l r 112 (112 - (r + 1)) (omega arith) (omega arith) (omega arith) (omega arith) (omega arith)
-    (marked .mark .ensures) (closed .put-length .ensures) (c .one .ensures)
+    λ H x l h. padded-in-one wide (omega arith) H h l r 112 (112 - (r + 1)) (omega arith) (omega arith) (omega arith) (omega arith)
+    (omega arith) (marked .mark .ensures) (closed .put-length .ensures) (c .one .ensures)
 
 returns-2 : tie.Need-returns-2
 returns-2 c =
@@ -28,5 +28,5 @@ returns-2 c =
 pub padded-spec : {M : Type 1} → statement M
 padded-spec =
     tie.close
-    (tie.spec (λ c κs. search needs) (λ c κs. search needs) (λ c κs. search needs) returns (λ c κs. search needs) (λ c κs. search needs) (λ c κs. search needs)
-    (λ c κs. search needs) (λ c κs. search needs) returns-2)
+    (tie.spec (λ c κs. search needs) (λ c κs. search needs) (λ c κs. search needs) returns (λ c κs. search needs) (λ c κs. search needs)
+    (λ c κs. search needs) (λ c κs. search needs) (λ c κs. search needs) returns-2)
