@@ -25,7 +25,7 @@ abbrev pub Leads : Width → ℕ → Eight → List ℕ → ℕ → Eight → Li
 Leads P t v W u y Z = (H : Eight) (M : List ℕ) → Rounds P H M t v W → Rounds P H M u y Z
 
 -- the bytes x fed from the hash value H on: v is the hash value after their whole blocks, `pending` begins with the bytes behind
--- these, and n is how many bytes x has, counted up to 2^64
+-- these, and n is how many bytes x has, modulo 2^64
 pub record Streamed (P : Width) (H : Eight) (v : Eight) (pending : List ℕ) (n : ℕ) (x : List ℕ) : Type 0 where
   pub count : n ≡ length x % 2 ^ 64
   pub value : v ≡ afterBlocks P H x (length x / blockBytes P)
