@@ -1,4 +1,4 @@
--- The hashes by their SBS hash IDs (document 01, the header's hash IDs).
+-- The hashes by their SBS hash IDs (H13, H14 of docs/FORMAT.md).
 use mathlib.Core.Bool.{cond}
 use mathlib.Core.List.{List, [], _∷_}
 use Prim.Native.Nat.{ℕ}
