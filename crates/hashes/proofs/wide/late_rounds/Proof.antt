@@ -17,7 +17,7 @@ loop-holds : tie.Need-loop-holds Inv-loop μ-loop
 loop-holds c = fours-begin wide 64 80 (omega arith) (omega arith)
 
 loop-again : tie.Need-loop-again Inv-loop μ-loop
-loop-again c = fours-more wide 64 80 (omega arith) (search needs) (c .before .before .loop .inv) (c .plains .ensures)
+loop-again c = fours-more wide 64 80 (omega arith) (search needs) (c .before .before .loop .inv) (c .late-four .ensures)
 
 returns : tie.Need-returns Inv-loop μ-loop
 returns c = fours-end wide 64 80 (search needs) (c .before .loop .inv)

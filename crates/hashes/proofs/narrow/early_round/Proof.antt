@@ -1,8 +1,8 @@
 use borrow.Author.Needs.{needs}
 use Rattle.hashes.specs.Tables.{narrow}
 use Rattle.hashes.proofs.Rounds.{round-and-word}
-use Rattle.hashes.proofs.narrow.turn.Statement.{statement}
-use Rattle.hashes.proofs.narrow.turn.Tie as tie
+use Rattle.hashes.proofs.narrow.early_round.Statement.{statement}
+use Rattle.hashes.proofs.narrow.early_round.Tie as tie
 
 returns : tie.Need-returns
 returns c =
@@ -11,8 +11,8 @@ returns c =
     λ H M r. round-and-word narrow H M _ _ (first .before .before .before .pre .1) (search needs) r (first .round .ensures)
     (c .next-word .ensures)
 
-pub turn-spec : {M : Type 1} → statement M
-turn-spec =
+pub early-round-spec : {M : Type 1} → statement M
+early-round-spec =
     tie.close
     (tie.spec (λ c. search needs) (λ c. search needs) (λ c. search needs) (λ c. search needs) (λ c κs. search needs) (λ c. search needs)
     (λ c. search needs) (λ c. search needs) (λ c. search needs) (λ c. search needs) (λ c. search needs) (λ c. search needs)
