@@ -6,7 +6,8 @@ use Rattle.hashes.proofs.narrow.late_four.Tie as tie
 
 returns : tie.Need-returns
 returns c =
-    four narrow _ (c .before .before .before .late-round .ensures) (c .before .before .late-round2 .ensures) (c .before .late-round3 .ensures)
+    four narrow _ (c .before .before .before .late-round .ensures) (c .before .before .late-round2 .ensures)
+    (c .before .late-round3 .ensures)
     (c .late-round4 .ensures)
 
 pub late-four-spec : {M : Type 1} → statement M
