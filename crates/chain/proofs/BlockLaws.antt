@@ -17,7 +17,8 @@ use Rattle.answers.specs.Rules.{firstBroken}
 use Rattle.answers.proofs.RuleLaws.{zero-all-hold, all-hold-zero}
 use Rattle.chain.specs.Hashsum.{hashsum}
 use Rattle.chain.specs.Blocks.{hashField, paddingOf, blockRules, blockCode, expected, fileBytes, proved, fileUpTo}
-use Rattle.chain.specs.Header.{Header, dataLength, fileLength}
+use Rattle.chain.specs.Header.{Header, Stream, fileLength}
+use Rattle.chain.proofs.HeaderLaws.{blockData}
 
 -- ---- one more block: with m of n proved and the next block's code c, m′ of n + 1 are
 
@@ -27,7 +28,7 @@ pub data Turn (n m m′ c : ℕ) : Type 0 where
   -- all were, and the next is not
   stopped : m ≡ n → (c ≡ 0 → ⊥) → m′ ≡ n → Turn n m m′ c
   -- not all were, and so it stays
-  held : m < n → m′ ≡ m → Turn n m m′ c
+  stays : m < n → m′ ≡ m → Turn n m m′ c
 
 turn-of : (n m c : ℕ) → m ≤ n → Turn n m (cond (eqb m n) (cond (eqb c 0) (suc n) n) m) c
 turn-of n m c h = go (eqb m n) (eqb c 0) refl refl
@@ -35,7 +36,7 @@ turn-of n m c h = go (eqb m n) (eqb c 0) refl refl
     go : (a b : Bool) → eqb m n ≡ a → eqb c 0 ≡ b → Turn n m (cond a (cond b (suc n) n) m) c
     go true true p q = went (eqb-true m n p) (eqb-true c 0 q) refl
     go true false p q = stopped (eqb-true m n p) (eqb-false c 0 q) refl
-    go false b p q = held (let ne : (m ≡ n → ⊥) = eqb-false m n p in omega arith) refl
+    go false b p q = stays (let ne : (m ≡ n → ⊥) = eqb-false m n p in omega arith) refl
 
 module _ (d : Header) (block : ℕ → List ℕ) where
   pub proved-le : (n : ℕ) → proved d block n ≤ n
@@ -46,7 +47,7 @@ module _ (d : Header) (block : ℕ → List ℕ) where
       go : Turn n (proved d block n) (proved d block (suc n)) (blockCode d block n) → proved d block (suc n) ≤ suc n
       go (went p q r) = omega arith
       go (stopped p q r) = omega arith
-      go (held p r) = omega arith
+      go (stays p r) = omega arith
 
   pub turn : (n : ℕ) → Turn n (proved d block n) (proved d block (suc n)) (blockCode d block n)
   unfolding proved
@@ -59,7 +60,7 @@ module _ (d : Header) (block : ℕ → List ℕ) where
       go : Turn n (proved d block n) (proved d block (suc n)) (blockCode d block n) → proved d block (suc n) ≡ suc n
       go (went _ _ r) = r
       go (stopped _ ne r) = absurd (ne q)
-      go (held l r) = omega arith
+      go (stays l r) = omega arith
 
   -- one that does not holds the count, however many blocks follow
   pub holds : (n : ℕ) → proved d block n < n → (m : ℕ) → n ≤ m → proved d block m ≡ proved d block n
@@ -72,7 +73,7 @@ module _ (d : Header) (block : ℕ → List ℕ) where
           → proved d block m ≡ proved d block n → proved d block (suc m) ≡ proved d block n
       go (went p q r) b e = omega arith
       go (stopped p q r) b e = omega arith
-      go (held p r) b e = r ∙ e
+      go (stays p r) b e = r ∙ e
 
   pub stops : (k n : ℕ) → k < n → proved d block k ≡ k → (blockCode d block k ≡ 0 → ⊥) → proved d block n ≡ k
   stops k n h p ne = go (turn k)
@@ -80,7 +81,7 @@ module _ (d : Header) (block : ℕ → List ℕ) where
       go : Turn k (proved d block k) (proved d block (suc k)) (blockCode d block k) → proved d block n ≡ k
       go (went _ q _) = absurd (ne q)
       go (stopped _ _ r) = holds (suc k) (omega arith) n h ∙ r
-      go (held l _) = omega arith
+      go (stays l _) = omega arith
 
   -- of the blocks before a proved one all are, and they pass
   pub proved-before : (n i : ℕ) → i ≤ proved d block n → proved d block i ≡ i
@@ -93,7 +94,7 @@ module _ (d : Header) (block : ℕ → List ℕ) where
           let l : i ≤ suc n = omega arith in
           ⊎-elim (λ e. ap (proved d block) e ∙ r ∙ sym e) (λ s. f (omega arith)) (eq-or-lt-of-le l)
       go (stopped p q r) f = f (omega arith)
-      go (held p r) f = f (omega arith)
+      go (stays p r) f = f (omega arith)
 
   pub passes : (n i : ℕ) → i < proved d block n → blockCode d block i ≡ 0
   passes n i h = go (turn i)
@@ -101,7 +102,7 @@ module _ (d : Header) (block : ℕ → List ℕ) where
       go : Turn i (proved d block i) (proved d block (suc i)) (blockCode d block i) → blockCode d block i ≡ 0
       go (went p q r) = q
       go (stopped p q r) = omega (arith, proved-before n (suc i) h)
-      go (held p r) = omega (arith, proved-before n (suc i) h)
+      go (stays p r) = omega (arith, proved-before n (suc i) h)
 
   pub proved-more : (m n : ℕ) → m ≤ n → proved d block m ≤ proved d block n
   proved-more m zero h = let e : m ≡ zero = omega arith in rw e (omega arith)
@@ -112,7 +113,7 @@ module _ (d : Header) (block : ℕ → List ℕ) where
           → proved d block m ≤ proved d block (suc n)
       go (went p q r) l = omega arith
       go (stopped p q r) l = omega arith
-      go (held p r) l = omega arith
+      go (stays p r) l = omega arith
 
   -- the first that is not proved doesn't
   pub fails : (n : ℕ) → proved d block n < n → blockCode d block (proved d block n) ≡ 0 → ⊥
@@ -134,120 +135,108 @@ module _ (d : Header) (block : ℕ → List ℕ) where
 abbrev pub Agree : ℕ → (ℕ → List ℕ) → (ℕ → List ℕ) → Type 0
 Agree n block block′ = (i : ℕ) → i < n → block i ≡ block′ i
 
-module _ (d : Header) (block block′ : ℕ → List ℕ) where
-  pub code-agrees : (k : ℕ) → Agree (suc k) block block′ → blockCode d block k ≡ blockCode d block′ k
-  code-agrees zero a = ap (λ (b : List ℕ). firstBroken (blockRules d zero (d .root) b)) (a zero (omega arith))
-  code-agrees (suc k) a =
-      ap₂ (λ (b c : List ℕ). firstBroken (blockRules d (suc k) (hashField d b) c)) (a k (omega arith)) (a (suc k) (omega arith))
-
-  pub proved-agrees : (n : ℕ) → Agree n block block′ → proved d block n ≡ proved d block′ n
-  unfolding proved
-  proved-agrees zero a = refl
-  proved-agrees (suc n) a =
-      ap₂ (λ (m c : ℕ). cond (eqb m n) (cond (eqb c 0) (suc n) n) m) (proved-agrees n (λ i h. a i (omega arith)))
-      (code-agrees n a)
-
-  pub file-agrees : (n : ℕ) → Agree n block block′ → fileUpTo d block n ≡ fileUpTo d block′ n
+module _ (s : Stream) (block block′ : ℕ → List ℕ) where
+  pub file-agrees : (n : ℕ) → Agree n block block′ → fileUpTo s block n ≡ fileUpTo s block′ n
   unfolding fileUpTo
   file-agrees zero a = refl
   file-agrees (suc n) a =
-      ap₂ (λ (f b : List ℕ). f ++ fileBytes d n b) (file-agrees n (λ i h. a i (omega arith))) (a n (omega arith))
+      ap₂ (λ (f b : List ℕ). f ++ fileBytes s n b) (file-agrees n (λ i h. a i (omega arith))) (a n (omega arith))
 
 -- ---- the file
 
 -- only the first block is padded
-pub unpadded : (d : Header) (k : ℕ) → paddingOf d (suc k) ≡ 0
-unpadded d k = ap (λ (b : Bool). cond b (d .padding) 0) (eqb·suc-zero k)
+pub unpadded : (s : Stream) (k : ℕ) → paddingOf s (suc k) ≡ 0
+unpadded s k = ap (λ (b : Bool). cond b (s .padding) 0) (eqb·suc-zero k)
 
-module _ (d : Header) (block : ℕ → List ℕ) where
-  pub file-none : fileUpTo d block zero ≡ []
+module _ (s : Stream) (block : ℕ → List ℕ) where
+  pub file-none : fileUpTo s block zero ≡ []
   unfolding fileUpTo
   file-none = refl
 
-  pub file-more : (n : ℕ) → fileUpTo d block (suc n) ≡ fileUpTo d block n ++ fileBytes d n (block n)
+  pub file-more : (n : ℕ) → fileUpTo s block (suc n) ≡ fileUpTo s block n ++ fileBytes s n (block n)
   unfolding fileUpTo
   file-more n = refl
 
-  length-more : (n : ℕ) → length (fileUpTo d block (suc n))
-      ≡ length (fileUpTo d block n) + (length (block n) - (d .hashsumLength + paddingOf d n))
+  length-more : (n : ℕ) → length (fileUpTo s block (suc n))
+      ≡ length (fileUpTo s block n) + (length (block n) - (s .hashsumLength + paddingOf s n))
   length-more n =
-      ap length (file-more n) ∙ length-append (fileUpTo d block n) (fileBytes d n (block n))
-      ∙ ap (λ (k : ℕ). length (fileUpTo d block n) + k) (length-drop (d .hashsumLength + paddingOf d n) (block n))
+      ap length (file-more n) ∙ length-append (fileUpTo s block n) (fileBytes s n (block n))
+      ∙ ap (λ (k : ℕ). length (fileUpTo s block n) + k) (length-drop (s .hashsumLength + paddingOf s n) (block n))
 
-  pub file-grows : (m n : ℕ) → m ≤ n → length (fileUpTo d block m) ≤ length (fileUpTo d block n)
+  pub file-grows : (m n : ℕ) → m ≤ n → length (fileUpTo s block m) ≤ length (fileUpTo s block n)
   file-grows m zero h = let e : m ≡ zero = omega arith in rw e (omega arith)
   file-grows m (suc n) h =
-      ⊎-elim (λ e. rw e (omega arith)) (λ s. omega (arith, file-grows m n (omega arith), length-more n)) (eq-or-lt-of-le h)
+      ⊎-elim (λ e. rw e (omega arith)) (λ l. omega (arith, file-grows m n (omega arith), length-more n)) (eq-or-lt-of-le h)
 
   -- what fewer blocks hold begins what more hold
-  pub file-begins : (m n : ℕ) → m ≤ n → take (length (fileUpTo d block m)) (fileUpTo d block n) ≡ fileUpTo d block m
-  file-begins m zero h = let e : m ≡ zero = omega arith in rw e (take-length (fileUpTo d block zero))
+  pub file-begins : (m n : ℕ) → m ≤ n → take (length (fileUpTo s block m)) (fileUpTo s block n) ≡ fileUpTo s block m
+  file-begins m zero h = let e : m ≡ zero = omega arith in rw e (take-length (fileUpTo s block zero))
   file-begins m (suc n) h =
-      ⊎-elim (λ e. rw e (take-length (fileUpTo d block (suc n))))
-      (λ s. rw file-more
-      (take-append-le (length (fileUpTo d block m)) (fileUpTo d block n) (fileBytes d n (block n))
+      ⊎-elim (λ e. rw e (take-length (fileUpTo s block (suc n))))
+      (λ l. rw file-more
+      (take-append-le (length (fileUpTo s block m)) (fileUpTo s block n) (fileBytes s n (block n))
       (file-grows m n (omega arith))
       ∙ file-begins m n (omega arith))) (eq-or-lt-of-le h)
 
   -- the turn of a loop that copies the file out
-  pub put-more : (output : List ℕ) (n : ℕ) → length (fileUpTo d block (suc n)) ≤ length output
-      → put (put output 0 (fileUpTo d block n)) (length (fileUpTo d block n)) (fileBytes d n (block n))
-      ≡ put output 0 (fileUpTo d block (suc n))
+  pub put-more : (output : List ℕ) (n : ℕ) → length (fileUpTo s block (suc n)) ≤ length output
+      → put (put output 0 (fileUpTo s block n)) (length (fileUpTo s block n)) (fileBytes s n (block n))
+      ≡ put output 0 (fileUpTo s block (suc n))
   put-more output n h =
-      let l : length (fileUpTo d block (suc n)) ≡ length (fileUpTo d block n) + length (fileBytes d n (block n)) =
-      ap length (file-more n) ∙ length-append (fileUpTo d block n) (fileBytes d n (block n)) in
-      ap (λ (at : ℕ). put (put output 0 (fileUpTo d block n)) at (fileBytes d n (block n)))
-      (sym (zero-add (length (fileUpTo d block n))))
-      ∙ put-beside output 0 (length (fileUpTo d block n)) (fileUpTo d block n) (fileBytes d n (block n)) refl (omega arith)
+      let l : length (fileUpTo s block (suc n)) ≡ length (fileUpTo s block n) + length (fileBytes s n (block n)) =
+      ap length (file-more n) ∙ length-append (fileUpTo s block n) (fileBytes s n (block n)) in
+      ap (λ (at : ℕ). put (put output 0 (fileUpTo s block n)) at (fileBytes s n (block n)))
+      (sym (zero-add (length (fileUpTo s block n))))
+      ∙ put-beside output 0 (length (fileUpTo s block n)) (fileUpTo s block n) (fileBytes s n (block n)) refl (omega arith)
       ∙ ap (λ (f : List ℕ). put output 0 f) (sym (file-more n))
 
   -- file length = block count x block data length - padding length, also of the first blocks, and of none
-  pub length-file : (n : ℕ) → ((k : ℕ) → k < n → length (block k) ≡ d .blockSize) → d .padding ≤ dataLength d
-      → length (fileUpTo d block n) ≡ n * dataLength d - d .padding
+  pub length-file : (n : ℕ) → ((k : ℕ) → k < n → length (block k) ≡ s .blockSize) → s .padding ≤ blockData s
+      → length (fileUpTo s block n) ≡ n * blockData s - s .padding
   length-file zero sized small = ap length file-none ∙ omega arith
   length-file (suc zero) sized small =
       length-more zero
-      ∙ ap₂ (λ (x y : ℕ). x + (y - (d .hashsumLength + d .padding))) (ap length file-none) (sized zero (omega arith))
+      ∙ ap₂ (λ (x y : ℕ). x + (y - (s .hashsumLength + s .padding))) (ap length file-none) (sized zero (omega arith))
       ∙ omega arith
   length-file (suc (suc n)) sized small =
       length-more (suc n)
       ∙ ap₂ (λ (x y : ℕ). x + y) (length-file (suc n) (λ k h. sized k (omega arith)) small)
-      (ap₂ (λ (x y : ℕ). x - (d .hashsumLength + y)) (sized (suc n) (omega arith)) (unpadded d n))
+      (ap₂ (λ (x y : ℕ). x - (s .hashsumLength + y)) (sized (suc n) (omega arith)) (unpadded s n))
       ∙ omega arith
 
   -- so a file's first part fits where the file does
-  pub first-part-fits : (n : ℕ) → n ≤ d .count → ((k : ℕ) → k < d .count → length (block k) ≡ d .blockSize)
-      → d .padding ≤ dataLength d → length (fileUpTo d block n) ≤ fileLength d
-  first-part-fits n h sized small = omega (arith, file-grows n (d .count) h, length-file (d .count) sized small)
+  pub first-part-fits : (n : ℕ) → n ≤ s .count → ((k : ℕ) → k < s .count → length (block k) ≡ s .blockSize)
+      → s .padding ≤ blockData s → length (fileUpTo s block n) ≤ fileLength s
+  first-part-fits n h sized small = omega (arith, file-grows n (s .count) h, length-file (s .count) sized small)
 
 -- ---- what passes 13, 14 and 15
 
-pub record Proper (d : Header) (k : ℕ) (expected block : List ℕ) : Type 0 where
-  pub hashed : hashsum (d .ids) block ≡ expected
-  pub padded : allZero (part block (d .hashsumLength) (paddingOf d k)) ≡ true
-  pub last : suc k ≡ d .count → allZero (hashField d block) ≡ true
+pub record Proper (s : Stream) (k : ℕ) (expected block : List ℕ) : Type 0 where
+  pub hashed : hashsum (s .ids) block ≡ expected
+  pub padded : allZero (part block (s .hashsumLength) (paddingOf s k)) ≡ true
+  pub last : suc k ≡ s .count → allZero (hashField s block) ≡ true
 
-module _ (d : Header) (k : ℕ) (expected block : List ℕ) where
-  pub proper : firstBroken (blockRules d k expected block) ≡ 0 → Proper d k expected block
+module _ (s : Stream) (k : ℕ) (expected block : List ℕ) where
+  pub proper : firstBroken (blockRules s k expected block) ≡ 0 → Proper s k expected block
   proper e =
-      let h = zero-all-hold (blockRules d k expected block) tt e in
+      let h = zero-all-hold (blockRules s k expected block) tt e in
       record {
-        hashed = same-eq (hashsum (d .ids) block) expected (not-false _ (h .0));
+        hashed = same-eq (hashsum (s .ids) block) expected (not-false _ (h .0));
         padded = not-false _ (h .1 .0);
         last = λ q. not-false _
-            (ap (λ (b : Bool). cond b (not (allZero (hashField d block))) false) (sym (eq-eqb (suc k) (d .count) q))
+            (ap (λ (b : Bool). cond b (not (allZero (hashField s block))) false) (sym (eq-eqb (suc k) (s .count) q))
             ∙ h .1 .1 .0);
       }
 
-  pub proper-passes : Proper d k expected block → firstBroken (blockRules d k expected block) ≡ 0
+  pub proper-passes : Proper s k expected block → firstBroken (blockRules s k expected block) ≡ 0
   proper-passes r =
-      all-hold-zero (blockRules d k expected block) (
-        ap not (eq-same (hashsum (d .ids) block) expected (r .hashed)),
-        (ap not (r .padded), (go (eqb (suc k) (d .count)) refl, tt)),
+      all-hold-zero (blockRules s k expected block) (
+        ap not (eq-same (hashsum (s .ids) block) expected (r .hashed)),
+        (ap not (r .padded), (go (eqb (suc k) (s .count)) refl, tt)),
       )
     where
-      go : (b : Bool) → eqb (suc k) (d .count) ≡ b → cond b (not (allZero (hashField d block))) false ≡ false
-      go true q = ap not (r .last (eqb-true (suc k) (d .count) q))
+      go : (b : Bool) → eqb (suc k) (s .count) ≡ b → cond b (not (allZero (hashField s block))) false ≡ false
+      go true q = ap not (r .last (eqb-true (suc k) (s .count) q))
       go false q = refl
 
 -- ---- a part that ends within the first of two lists
@@ -259,42 +248,42 @@ part-front s t at n h =
 
 -- ---- the data of the blocks: the file behind its padding
 
-unfoldable pub dataUpTo : Header → (ℕ → List ℕ) → ℕ → List ℕ
-dataUpTo d block zero = []
-dataUpTo d block (suc n) = dataUpTo d block n ++ drop (d .hashsumLength) (block n)
+unfoldable pub dataUpTo : Stream → (ℕ → List ℕ) → ℕ → List ℕ
+dataUpTo s block zero = []
+dataUpTo s block (suc n) = dataUpTo s block n ++ drop (s .hashsumLength) (block n)
 
-module _ (d : Header) (block : ℕ → List ℕ) (n : ℕ) (sized : (k : ℕ) → k < n → length (block k) ≡ d .blockSize) where
-  length-data-of : (k : ℕ) → k < n → length (drop (d .hashsumLength) (block k)) ≡ dataLength d
-  length-data-of k h = length-drop (d .hashsumLength) (block k) ∙ ap (λ (x : ℕ). x - d .hashsumLength) (sized k h)
+module _ (s : Stream) (block : ℕ → List ℕ) (n : ℕ) (sized : (k : ℕ) → k < n → length (block k) ≡ s .blockSize) where
+  length-data-of : (k : ℕ) → k < n → length (drop (s .hashsumLength) (block k)) ≡ blockData s
+  length-data-of k h = length-drop (s .hashsumLength) (block k) ∙ ap (λ (x : ℕ). x - s .hashsumLength) (sized k h)
 
-  pub length-data : (m : ℕ) → m ≤ n → length (dataUpTo d block m) ≡ m * dataLength d
+  pub length-data : (m : ℕ) → m ≤ n → length (dataUpTo s block m) ≡ m * blockData s
   unfolding dataUpTo
-  length-data zero h = sym (zero-mul (dataLength d))
+  length-data zero h = sym (zero-mul (blockData s))
   length-data (suc m) h =
-      length-append (dataUpTo d block m) (drop (d .hashsumLength) (block m))
-      ∙ ap₂ (λ (x y : ℕ). x + y) (length-data m (omega arith)) (length-data-of m h) ∙ sym (suc-mul m (dataLength d))
+      length-append (dataUpTo s block m) (drop (s .hashsumLength) (block m))
+      ∙ ap₂ (λ (x y : ℕ). x + y) (length-data m (omega arith)) (length-data-of m h) ∙ sym (suc-mul m (blockData s))
 
-  pub file-of-data : (m : ℕ) → m < n → d .padding ≤ dataLength d
-      → fileUpTo d block (suc m) ≡ drop (d .padding) (dataUpTo d block (suc m))
+  pub file-of-data : (m : ℕ) → m < n → s .padding ≤ blockData s
+      → fileUpTo s block (suc m) ≡ drop (s .padding) (dataUpTo s block (suc m))
   unfolding fileUpTo dataUpTo
-  file-of-data zero h small = sym (drop-drop (d .padding) (d .hashsumLength) (block zero))
+  file-of-data zero h small = sym (drop-drop (s .padding) (s .hashsumLength) (block zero))
   file-of-data (suc m) h small =
       ap₂ (λ (f : List ℕ) (x : ℕ). f ++ drop x (block (suc m))) (file-of-data m (omega arith) small)
-      (ap (λ (x : ℕ). d .hashsumLength + x) (unpadded d m) ∙ add-zero (d .hashsumLength))
+      (ap (λ (x : ℕ). s .hashsumLength + x) (unpadded s m) ∙ add-zero (s .hashsumLength))
       ∙ sym
-      (drop-append-le (d .padding) (dataUpTo d block (suc m)) (drop (d .hashsumLength) (block (suc m)))
+      (drop-append-le (s .padding) (dataUpTo s block (suc m)) (drop (s .hashsumLength) (block (suc m)))
       (rw (length-data (suc m) (omega arith)) (omega arith)))
 
   pub data-part : (m : ℕ) → m ≤ n → (k : ℕ) → k < m
-      → part (dataUpTo d block m) (k * dataLength d) (dataLength d) ≡ drop (d .hashsumLength) (block k)
+      → part (dataUpTo s block m) (k * blockData s) (blockData s) ≡ drop (s .hashsumLength) (block k)
   unfolding dataUpTo
   data-part zero h k l = absurd (omega arith)
   data-part (suc m) h k l =
       ⊎-elim
       (λ e. rw e
-      (ap (λ (t : List ℕ). take (dataLength d) t)
-      (drop-at (dataUpTo d block m) (drop (d .hashsumLength) (block m)) (m * dataLength d) (length-data m (omega arith)))
-      ∙ take-all (dataLength d) (drop (d .hashsumLength) (block m)) (le-of-eq (length-data-of m h))))
-      (λ s. part-front (dataUpTo d block m) (drop (d .hashsumLength) (block m)) (k * dataLength d) (dataLength d)
-      (rw (length-data m (omega arith)) (omega (arith, mul-le-mul-right (dataLength d) s, suc-mul k (dataLength d))))
-      ∙ data-part m (omega arith) k s) (eq-or-lt-of-le (le-of-suc-le-suc l))
+      (ap (λ (t : List ℕ). take (blockData s) t)
+      (drop-at (dataUpTo s block m) (drop (s .hashsumLength) (block m)) (m * blockData s) (length-data m (omega arith)))
+      ∙ take-all (blockData s) (drop (s .hashsumLength) (block m)) (le-of-eq (length-data-of m h))))
+      (λ r. part-front (dataUpTo s block m) (drop (s .hashsumLength) (block m)) (k * blockData s) (blockData s)
+      (rw (length-data m (omega arith)) (omega (arith, mul-le-mul-right (blockData s) r, suc-mul k (blockData s))))
+      ∙ data-part m (omega arith) k r) (eq-or-lt-of-le (le-of-suc-le-suc l))

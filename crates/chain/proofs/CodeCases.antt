@@ -2,25 +2,26 @@
 use mathlib.Core.Path.{_≡_, refl, sym, ap, ap₂, _∙_}
 use mathlib.Core.Bool.{Bool, true, false, cond}
 use mathlib.Core.List.{List, [], _∷_, _++_, map}
-use Prim.Native.Nat.{ℕ}
+use Prim.Native.Nat.{ℕ, suc}
 use native.Mathlib.Omega.{arith}
 use borrow.Author.Tests.{eqb-true, eq-eqb, ne-eqb}
 use lib.Dec.{eqb}
 use lib.ListN.{length, take, replicate}
 use Rattle.octets.specs.Numbers.{little, littleBytes}
 use Rattle.octets.specs.Parts.{put, same, allZero}
-use Rattle.answers.specs.Answers.{Outcome}
+use Rattle.answers.specs.Answers.{Outcome, recordLength, stopAt}
+use Rattle.answers.specs.declared.Stop.{Stop}
 use Rattle.answers.specs.Rules.{firstBroken}
 use Rattle.hashes.specs.Compression as compression
 use Rattle.hashes.specs.Digests as digests
 use Rattle.hashes.specs.Padding as messages
 use Rattle.hashes.specs.Tables as tables
-use Rattle.chain.specs.Blocks.{blockCode, blockOf, proved}
+use Rattle.chain.specs.Blocks.{blockCode, blockOf, proved, provedBlocks}
 use Rattle.chain.specs.Hashsum.{hashsum, sumLength, anyUnknown}
 use Rattle.chain.specs.Header.{Header, headerMagic, headerOf, headerBytes, idBytes}
-use Rattle.chain.specs.Open.{openRules, opened}
+use Rattle.chain.specs.Open.{openRules, openAnswer, opened}
 use Rattle.chain.specs.Pack.{Order, packRules, packed}
-use Rattle.chain.proofs.BlockLaws.{Turn, went, stopped, turn}
+use Rattle.chain.proofs.BlockLaws.{Turn, went, stopped, stays, turn}
 use Rattle.chain.proofs.OpenLaws.{outcome, opened-is, Way, unwritten, refusing, proving, way}
 
 -- ---- the code, computed so that blocks are looked at only where they must be
@@ -30,10 +31,10 @@ pub record OpenCase : Type 0 where
   pub approved : List ℕ
   pub signature : ℕ
   pub output : List ℕ
-  pub held : List ℕ
+  pub old : List ℕ
 
 abbrev pub openCode : OpenCase → ℕ
-openCode x = opened (x .image) (x .approved) (x .signature) (x .output) (x .held) .code
+openCode x = opened (x .image) (x .approved) (x .signature) (x .output) (x .old) .code
 
 -- one of two, of which the other is not computed
 abbrev either : Bool → (Unit {0} → ℕ) → (Unit {0} → ℕ) → ℕ
@@ -45,63 +46,73 @@ blocksCode d block n = cond (eqb (proved d block n) n) 0 (blockCode d block (pro
 
 -- the code that the blocks get; of a single block, its own
 abbrev quickBlocks : Header → (ℕ → List ℕ) → ℕ
-quickBlocks d block = either (eqb (d .count) 1) (λ u. blockCode d block 0) (λ u. blocksCode d block (d .count))
+quickBlocks d block = either (eqb (d .stream .count) 1) (λ u. blockCode d block 0) (λ u. blocksCode d block (d .stream .count))
 
 abbrev quickBy : ℕ → Header → (ℕ → List ℕ) → List ℕ → ℕ
-quickBy code d block held =
-    either (eqb (length held) 40) (λ u. either (eqb code 0) (λ v. quickBlocks d block) (λ v. code)) (λ u. 1)
+quickBy code d block old =
+    either (eqb (length old) recordLength) (λ u. either (eqb code 0) (λ v. quickBlocks d block) (λ v. code)) (λ u. 1)
 
 abbrev quickCode : OpenCase → ℕ
 quickCode x =
     quickBy (firstBroken (openRules (x .image) (x .approved) (x .signature) (length (x .output)))) (headerOf (x .approved))
-    (blockOf (x .image) (x .approved)) (x .held)
+    (blockOf (x .image) (headerOf (x .approved))) (x .old)
+
+-- the code of one of two stops
+code-of : (b : Bool) (x y : Stop) → cond b x y .code ≡ cond b (x .code) (y .code)
+code-of true x y = refl
+code-of false x y = refl
 
 module _ (d : Header) (block : ℕ → List ℕ) where
+  answer-code : openAnswer d block .code ≡ blocksCode d block (d .stream .count)
+  answer-code =
+      let m : ℕ = provedBlocks d block in
+      code-of (eqb m (d .stream .count)) (stopAt 0 0) (stopAt (blockCode d block m) (suc m))
+
   single : blocksCode d block 1 ≡ blockCode d block 0
   single = go (turn d block 0)
     where
       go : Turn 0 (proved d block 0) (proved d block 1) (blockCode d block 0) → blocksCode d block 1 ≡ blockCode d block 0
       go (went p q r) = ap (λ (m : ℕ). cond (eqb m 1) 0 (blockCode d block m)) r ∙ sym q
       go (stopped p q r) = ap (λ (m : ℕ). cond (eqb m 1) 0 (blockCode d block m)) r
-      go (Turn.held p r) = absurd (omega arith)
+      go (stays p r) = absurd (omega arith)
 
-  quick-blocks : quickBlocks d block ≡ blocksCode d block (d .count)
-  quick-blocks = go (eqb (d .count) 1) refl
+  quick-blocks : quickBlocks d block ≡ blocksCode d block (d .stream .count)
+  quick-blocks = go (eqb (d .stream .count) 1) refl
     where
-      go : (b : Bool) → eqb (d .count) 1 ≡ b
-          → either b (λ u. blockCode d block 0) (λ u. blocksCode d block (d .count)) ≡ blocksCode d block (d .count)
-      go true e = sym single ∙ ap (blocksCode d block) (sym (eqb-true (d .count) 1 e))
+      go : (b : Bool) → eqb (d .stream .count) 1 ≡ b
+          → either b (λ u. blockCode d block 0) (λ u. blocksCode d block (d .stream .count)) ≡ blocksCode d block (d .stream .count)
+      go true e = sym single ∙ ap (blocksCode d block) (sym (eqb-true (d .stream .count) 1 e))
       go false e = refl
 
-module _ (code : ℕ) (d : Header) (block : ℕ → List ℕ) (output held : List ℕ) where
+module _ (code : ℕ) (d : Header) (block : ℕ → List ℕ) (output old : List ℕ) where
   abbrev judged : ℕ
   judged = either (eqb code 0) (λ v. quickBlocks d block) (λ v. code)
 
-  quick-outcome : outcome code d block output held .code ≡ quickBy code d block held
-  quick-outcome = go (way code d block output held)
+  quick-outcome : outcome code d block output old .code ≡ quickBy code d block old
+  quick-outcome = go (way code d block output old)
     where
-      whole : length held ≡ 40 → quickBy code d block held ≡ judged
-      whole h = ap (λ (b : Bool). either b (λ u. judged) (λ u. 1)) (eq-eqb (length held) 40 h)
+      whole : length old ≡ recordLength → quickBy code d block old ≡ judged
+      whole h = ap (λ (b : Bool). either b (λ u. judged) (λ u. 1)) (eq-eqb (length old) recordLength h)
 
-      go : Way code d block output held (outcome code d block output held)
-          → outcome code d block output held .code ≡ quickBy code d block held
+      go : Way code d block output old (outcome code d block output old)
+          → outcome code d block output old .code ≡ quickBy code d block old
       go (unwritten h q) =
           ap (λ (o : Outcome). o .code) q
-          ∙ sym (ap (λ (b : Bool). either b (λ u. judged) (λ u. 1)) (ne-eqb (length held) 40 h))
+          ∙ sym (ap (λ (b : Bool). either b (λ u. judged) (λ u. 1)) (ne-eqb (length old) recordLength h))
       go (refusing h c q) =
           ap (λ (o : Outcome). o .code) q
           ∙ sym (whole h ∙ ap (λ (b : Bool). either b (λ v. quickBlocks d block) (λ v. code)) (ne-eqb code 0 c))
       go (proving h c q) =
-          ap (λ (o : Outcome). o .code) q
+          ap (λ (o : Outcome). o .code) q ∙ answer-code d block
           ∙ sym
           (whole h ∙ ap (λ (b : Bool). either b (λ v. quickBlocks d block) (λ v. code)) (eq-eqb code 0 c)
           ∙ quick-blocks d block)
 
 quick : (x : OpenCase) → openCode x ≡ quickCode x
 quick x =
-    ap (λ (o : Outcome). o .code) (opened-is (x .image) (x .approved) (x .signature) (x .output) (x .held))
+    ap (λ (o : Outcome). o .code) (opened-is (x .image) (x .approved) (x .signature) (x .output) (x .old))
     ∙ quick-outcome (firstBroken (openRules (x .image) (x .approved) (x .signature) (length (x .output))))
-    (headerOf (x .approved)) (blockOf (x .image) (x .approved)) (x .output) (x .held)
+    (headerOf (x .approved)) (blockOf (x .image) (headerOf (x .approved))) (x .output) (x .old)
 
 all-quick : (xs : List OpenCase) → map openCode xs ≡ map quickCode xs
 all-quick [] = refl
@@ -113,14 +124,10 @@ abbrev sealed : ℕ → List ℕ → Header
 sealed padded root =
     record {
       magic = headerMagic;
-      count = 1;
-      blockSize = 34;
+      stream = record { count = 1; blockSize = 34; hashsumLength = 32; ids = 2 ∷ 0 ∷ 0 ∷ 0 ∷ []; padding = padded };
       signature = 1;
       headerSize = 68;
-      hashsumLength = 32;
-      ids = 2 ∷ 0 ∷ 0 ∷ 0 ∷ [];
       scheme = 1;
-      padding = padded;
       root = root;
     }
 
@@ -144,7 +151,7 @@ badRoot =
     ∷ 51 ∷ 124 ∷ 114 ∷ 187 ∷ 199 ∷ 17 ∷ 75 ∷ 31 ∷ 84 ∷ 70 ∷ 204 ∷ 86 ∷ 195 ∷ 49 ∷ 64 ∷ 164
     ∷ []
 
--- a case: an image of which so many bytes are approved, an output of so many, and a record of 40
+-- a case: an image of which so many bytes are approved, an output of so many, and a record of its length
 abbrev opening : List ℕ → ℕ → ℕ → ℕ → OpenCase
 opening image header signature output =
     record {
@@ -152,7 +159,7 @@ opening image header signature output =
       approved = take header image;
       signature = signature;
       output = replicate output 0;
-      held = replicate 40 0;
+      old = replicate recordLength 0;
     }
 
 abbrev imageOf : Header → List ℕ → List ℕ
@@ -181,7 +188,11 @@ openCases =
     ∷ []
 
 quick-cases : map quickCode openCases ≡ 0 ∷ 1 ∷ 4 ∷ 5 ∷ 6 ∷ 7 ∷ 8 ∷ 9 ∷ 10 ∷ 11 ∷ 12 ∷ 13 ∷ 14 ∷ 15 ∷ 29 ∷ []
-unfolding headerBytes idBytes littleBytes little same allZero proved hashsum sumLength anyUnknown digests.digest digests.digestLength digests.algorithms digests.algorithmOf compression.sha2 compression.joined compression.hashed compression.afterBlocks compression.compressed compression.afterRounds compression.round compression.summed compression.scheduled compression.withNext messages.padded messages.wordsAt tables.K256 tables.initial256
+unfolding headerBytes idBytes littleBytes little same allZero proved hashsum sumLength anyUnknown
+    digests.digest digests.digestLength digests.algorithms digests.algorithmOf
+    compression.sha2 compression.joined compression.hashed compression.afterBlocks compression.compressed compression.afterRounds
+    compression.round compression.summed compression.scheduled compression.withNext
+    messages.padded messages.wordsAt tables.K256 tables.initial256
 quick-cases = refl
 
 pub open-cases : map openCode openCases ≡ 0 ∷ 1 ∷ 4 ∷ 5 ∷ 6 ∷ 7 ∷ 8 ∷ 9 ∷ 10 ∷ 11 ∷ 12 ∷ 13 ∷ 14 ∷ 15 ∷ 29 ∷ []

@@ -2,53 +2,33 @@
 use mathlib.Core.Path.{_≡_, refl, sym, ap, subst}
 use mathlib.Core.Bool.{Bool, true, false, not, _&&_, _||_, cond}
 use mathlib.Core.List.{List, [], _∷_}
-use Prim.Native.Nat.{ℕ, suc}
+use Prim.Native.Nat.{ℕ, suc, _*_, _^_, _≤_, _<_}
+use native.Mathlib.Nat.{le-of-lt, le-mul-of-pos-right, mul-le-mul-left}
 use native.Mathlib.Omega.{arith}
 use borrow.Author.Tests.{eqb-false, eq-eqb, ne-eqb}
-use lib.Dec.{T, T-not, eqb}
+use lib.Dec.{T, T-not, eqb, ltb, ltb→lt}
 use lib.ListN.{length}
 use Rattle.octets.specs.Parts.{put}
-use Rattle.answers.specs.Answers.{Outcome, refused, recordBytes}
+use Rattle.answers.specs.Answers.{Outcome, answerAfter, writtenAfter, refused, recordBytes, recordLength, stopAt}
 use Rattle.answers.specs.declared.Answer.{Answer}
+use Rattle.answers.specs.declared.Stop.{Stop}
 use Rattle.answers.specs.Rules.{Rule, firstBroken}
-use Rattle.chain.specs.Blocks.{blockOf, blockRules, blockCode, expected, proved, fileUpTo}
+use Rattle.answers.proofs.ChoiceLaws.{cond-cases}
+use Rattle.answers.proofs.OutcomeLaws.{given, answered-given, after-cases}
+use Rattle.answers.proofs.RecordLaws.{Fit}
+use Rattle.answers.proofs.RuleLaws.{codesPass, code-passes, not-none}
+use Rattle.chain.specs.Blocks.{blockOf, blockRules, blockCode, expected, provedBlocks}
 use Rattle.chain.specs.Header.{Header, headerOf}
-use Rattle.chain.specs.Open.{openRules, openAnswer, opened}
+use Rattle.chain.specs.Open.{openRules, openAnswer, provedFile, opened}
 use Rattle.chain.specs.Pack.{Order, packRules, image, packed}
-use Rattle.chain.proofs.BlockLaws.{proved-le, fails}
-use Rattle.chain.proofs.OpenLaws.{Way, unwritten, refusing, proving, way, opened-is}
+use Rattle.chain.proofs.BlockLaws.{proved-le, fails, first-part-fits}
+use Rattle.chain.proofs.HeaderLaws.{Allowed, Passed, stream-passed, whole-block, blockData}
+use Rattle.chain.proofs.OpenLaws.{Way, unwritten, refusing, proving, way, opened-is, rules-passed}
 
 -- whether a code is one of some
 abbrev pub among : List ℕ → ℕ → Bool
 among [] c = false
 among (x ∷ xs) c = eqb c x || among xs c
-
--- whether the codes of some rules all pass a test
-abbrev pub codesPass : (ℕ → Bool) → List Rule → Bool
-codesPass f [] = true
-codesPass f (r ∷ rs) = f (r .code) && codesPass f rs
-
-and-parts : (a b : Bool) → T (a && b) → T a × T b
-and-parts true b t = (tt, t)
-and-parts false b t = absurd t
-
--- then so does the code that is given
-pub code-passes : (f : ℕ → Bool) (rs : List Rule) → T (f 0) → T (codesPass f rs) → T (f (firstBroken rs))
-code-passes f [] z t = z
-code-passes f (r ∷ rs) z t =
-    go (r .broken) (and-parts (f (r .code)) (codesPass f rs) t .0)
-    (code-passes f rs z (and-parts (f (r .code)) (codesPass f rs) t .1))
-  where
-    go : (b : Bool) → T (f (r .code)) → T (f (firstBroken rs)) → T (f (cond b (r .code) (firstBroken rs)))
-    go true p q = p
-    go false p q = q
-
--- a refusal passes what is asked of codes but 0
-pub not-none : (f : ℕ → Bool) (rs : List Rule) → T (codesPass (λ (c : ℕ). eqb c 0 || f c) rs) → (firstBroken rs ≡ 0 → ⊥)
-    → T (f (firstBroken rs))
-not-none f rs t ne =
-    subst (λ (b : Bool). T (b || f (firstBroken rs))) (ne-eqb (firstBroken rs) 0 ne)
-    (code-passes (λ (c : ℕ). eqb c 0 || f c) rs tt t)
 
 is-true : (b : Bool) → T b → b ≡ true
 is-true true t = refl
@@ -58,38 +38,36 @@ is-false : (b : Bool) → T (not b) → b ≡ false
 is-false true t = absurd t
 is-false false t = refl
 
-module _ (image approved : List ℕ) (signature : ℕ) (output held : List ℕ) where
+module _ (image approved : List ℕ) (signature : ℕ) (output old : List ℕ) where
   abbrev pub d : Header
   d = headerOf approved
 
   abbrev pub block : ℕ → List ℕ
-  block = blockOf image approved
+  block = blockOf image d
 
   abbrev pub m : ℕ
-  m = proved d block (d .count)
+  m = provedBlocks d block
 
   abbrev pub rules : List Rule
   rules = openRules image approved signature (length output)
 
   abbrev pub o : Outcome
-  o = opened image approved signature output held
+  o = opened image approved signature output old
 
   abbrev pub OpenWay : Type 0
-  OpenWay = Way (firstBroken rules) d block output held o
+  OpenWay = Way (firstBroken rules) d block output old o
 
   pub open-way : OpenWay
   open-way =
-      subst (Way (firstBroken rules) d block output held) (sym (opened-is image approved signature output held))
-      (way (firstBroken rules) d block output held)
+      subst (Way (firstBroken rules) d block output old) (sym (opened-is image approved signature output old))
+      (way (firstBroken rules) d block output old)
 
   -- the code of a block that was looked at passes what 0, 13, 14 and 15 do
   pub block-code : (f : ℕ → Bool) → T (f 0) → T (f 13 && (f 14 && (f 15 && true)))
-      → T (f (cond (eqb m (d .count)) 0 (blockCode d block m)))
-  block-code f z t = go (eqb m (d .count))
-    where
-      go : (b : Bool) → T (f (cond b 0 (blockCode d block m)))
-      go true = z
-      go false = code-passes f (blockRules d m (expected d block m) (block m)) z t
+      → T (f (openAnswer d block .code))
+  block-code f z t =
+      cond-cases (λ (s : Stop). T (f (s .code))) (eqb m (d .stream .count)) (stopAt 0 0) (stopAt (blockCode d block m) (suc m)) (λ e. z)
+      (λ e. code-passes f (blockRules (d .stream) m (expected d block m) (block m)) z t)
 
   pub open-code : (f : ℕ → Bool) → T (f 1) → T (codesPass f rules) → T (f 0) → T (f 13 && (f 14 && (f 15 && true))) → T (f (o .code))
   open-code f one r z t = go open-way
@@ -109,17 +87,17 @@ module _ (image approved : List ℕ) (signature : ℕ) (output held : List ℕ) 
       go (refusing l c q) = ap (λ (x : Outcome). x .lent) q
       go (proving l c q) =
           absurd
-          (T-not (among cs (cond (eqb m (d .count)) 0 (blockCode d block m))) (block-code (λ (x : ℕ). not (among cs x)) z t)
+          (T-not (among cs (openAnswer d block .code)) (block-code (λ (x : ℕ). not (among cs x)) z t)
           (subst (λ (x : Outcome). T (among cs (x .code))) q h))
 
   pub unchanged : T (among (1 ∷ 4 ∷ 5 ∷ 6 ∷ 7 ∷ 8 ∷ 9 ∷ 10 ∷ 11 ∷ 12 ∷ 29 ∷ []) (o .code)) → o .lent ≡ output
   unchanged = not-block (1 ∷ 4 ∷ 5 ∷ 6 ∷ 7 ∷ 8 ∷ 9 ∷ 10 ∷ 11 ∷ 12 ∷ 29 ∷ []) tt tt
 
   -- 13, 14 and 15 come from the blocks alone
-  pub first-part : T (among (13 ∷ 14 ∷ 15 ∷ []) (o .code)) → o .lent ≡ put output 0 (fileUpTo d block m)
+  pub first-part : T (among (13 ∷ 14 ∷ 15 ∷ []) (o .code)) → o .lent ≡ put output 0 (provedFile d block)
   first-part h = go open-way
     where
-      go : OpenWay → o .lent ≡ put output 0 (fileUpTo d block m)
+      go : OpenWay → o .lent ≡ put output 0 (provedFile d block)
       go (unwritten l q) = absurd (subst (λ (x : Outcome). T (among (13 ∷ 14 ∷ 15 ∷ []) (x .code))) q h)
       go (refusing l c q) =
           absurd
@@ -128,7 +106,7 @@ module _ (image approved : List ℕ) (signature : ℕ) (output held : List ℕ) 
           (subst (λ (x : Outcome). T (among (13 ∷ 14 ∷ 15 ∷ []) (x .code))) q h))
       go (proving l c q) = ap (λ (x : Outcome). x .lent) q
 
-  -- ---- what a record of 40 bytes tells
+  -- ---- what a record of its length tells
 
   -- place: the block number from 1 for 13 to 15, else 0; no commands, no entry; stored: the file bytes copied
   pub record Tells (a : Answer) : Type 0 where
@@ -136,7 +114,7 @@ module _ (image approved : List ℕ) (signature : ℕ) (output held : List ℕ) 
     pub code : o .code ≡ a .code
     pub place : a .place ≡ cond (among (13 ∷ 14 ∷ 15 ∷ []) (a .code)) (suc m) 0
     pub commands : a .commands ≡ 0
-    pub stored : a .stored ≡ cond (among (0 ∷ 13 ∷ 14 ∷ 15 ∷ []) (a .code)) (length (fileUpTo d block m)) 0
+    pub stored : a .stored ≡ cond (among (0 ∷ 13 ∷ 14 ∷ 15 ∷ []) (a .code)) (length (provedFile d block)) 0
     pub entry : a .entry ≡ 0
 
   -- a refusal before any block has none of the codes that come from blocks
@@ -145,48 +123,116 @@ module _ (image approved : List ℕ) (signature : ℕ) (output held : List ℕ) 
   refused-code cs t ne = is-false (among cs (firstBroken rules)) (not-none (λ (c : ℕ). not (among cs c)) rules t ne)
 
   -- the first bad block has one of them
-  bad-code : (m ≡ d .count → ⊥) → among (13 ∷ 14 ∷ 15 ∷ []) (blockCode d block m) ≡ true
+  bad-code : (m ≡ d .stream .count → ⊥) → among (13 ∷ 14 ∷ 15 ∷ []) (blockCode d block m) ≡ true
   bad-code ne =
       is-true (among (13 ∷ 14 ∷ 15 ∷ []) (blockCode d block m))
-      (not-none (among (13 ∷ 14 ∷ 15 ∷ [])) (blockRules d m (expected d block m) (block m)) tt
-      (fails d block (d .count) (omega (arith, proved-le d block (d .count)))))
+      (not-none (among (13 ∷ 14 ∷ 15 ∷ [])) (blockRules (d .stream) m (expected d block m) (block m)) tt
+      (fails d block (d .stream .count) (omega (arith, proved-le d block (d .stream .count)))))
 
-  block-place : (b : Bool) → eqb m (d .count) ≡ b
-      → cond b 0 (suc m) ≡ cond (among (13 ∷ 14 ∷ 15 ∷ []) (cond b 0 (blockCode d block m))) (suc m) 0
-  block-place true e = refl
-  block-place false e = sym (ap (λ (x : Bool). cond x (suc m) 0) (bad-code (eqb-false m (d .count) e)))
+  block-place : openAnswer d block .place ≡ cond (among (13 ∷ 14 ∷ 15 ∷ []) (openAnswer d block .code)) (suc m) 0
+  block-place =
+      cond-cases (λ (s : Stop). s .place ≡ cond (among (13 ∷ 14 ∷ 15 ∷ []) (s .code)) (suc m) 0) (eqb m (d .stream .count)) (stopAt 0 0)
+      (stopAt (blockCode d block m) (suc m)) (λ e. refl)
+      (λ e. sym (ap (λ (x : Bool). cond x (suc m) 0) (bad-code (eqb-false m (d .stream .count) e))))
 
-  pub told : length held ≡ 40 → (a : Answer) × Tells a
-  told h = go open-way
+  -- open's answer, and that its record is written
+  abbrev answer : Answer
+  answer = answerAfter (firstBroken rules) (openAnswer d block)
+
+  answer-given : length old ≡ recordLength → o ≡ given answer (put output 0 (writtenAfter (firstBroken rules) (provedFile d block)))
+  unfolding opened
+  answer-given = answered-given old answer output (put output 0 (writtenAfter (firstBroken rules) (provedFile d block)))
+
+  pub answer-written : length old ≡ recordLength → o .answer ≡ recordBytes answer
+  answer-written h = ap (λ (x : Outcome). x .answer) (answer-given h)
+
+  pub tells : length old ≡ recordLength → Tells answer
+  tells h =
+      after-cases {A = ℕ} (firstBroken rules) (openAnswer d block) []
+      (λ (a : Answer) (xs : List ℕ). o .answer ≡ recordBytes a → o .code ≡ a .code → Tells a) (λ e. proving-tells) refused-tells
+      (answer-written h) (ap (λ (x : Outcome). x .code) (answer-given h))
     where
-      go : OpenWay → (a : Answer) × Tells a
-      go (unwritten l q) = absurd (l h)
-      go (refusing l c q) = (
-        refused (firstBroken rules),
+      refused-tells : (firstBroken rules ≡ 0 → ⊥) → o .answer ≡ recordBytes (refused (firstBroken rules)) → o .code ≡ firstBroken rules
+          → Tells (refused (firstBroken rules))
+      refused-tells n w c =
+          record {
+            written = w;
+            code = c;
+            place = sym (ap (λ (x : Bool). cond x (suc m) 0) (refused-code (13 ∷ 14 ∷ 15 ∷ []) tt n));
+            commands = refl;
+            stored = sym (ap (λ (x : Bool). cond x (length (provedFile d block)) 0) (refused-code (0 ∷ 13 ∷ 14 ∷ 15 ∷ []) tt n));
+            entry = refl;
+          }
+
+      proving-tells : o .answer ≡ recordBytes (openAnswer d block) → o .code ≡ openAnswer d block .code → Tells (openAnswer d block)
+      proving-tells w c =
+          record {
+            written = w;
+            code = c;
+            place = block-place;
+            commands = refl;
+            stored = sym
+                (ap (λ (x : Bool). cond x (length (provedFile d block)) 0)
+                (is-true (among (0 ∷ 13 ∷ 14 ∷ 15 ∷ []) (openAnswer d block .code))
+                (block-code (among (0 ∷ 13 ∷ 14 ∷ 15 ∷ [])) tt tt)));
+            entry = refl;
+          }
+
+  -- ---- each number of the answer fits its 64 bits
+
+  small : (c : ℕ) → T (ltb c 64) → c < 2 ^ 64
+  small c t = let l : c < 64 = ltb→lt c 64 t in omega arith
+
+  refused-fits : Fit (refused (firstBroken rules))
+  refused-fits =
+      record {
+        code = small (firstBroken rules) (code-passes (λ (c : ℕ). ltb c 64) rules tt tt);
+        place = omega arith;
+        commands = omega arith;
+        stored = omega arith;
+        entry = omega arith;
+      }
+
+  module _ (none : firstBroken rules ≡ 0) where
+    passed : Allowed signature (length image) × Passed image approved signature
+    passed = stream-passed image approved signature (rules-passed image approved signature (length output) none .0)
+
+    -- the blocks lie in the image
+    bytes-few : d .stream .count * d .stream .blockSize ≤ 2 ^ 30
+    bytes-few = omega (arith, passed .1 .exact, passed .0 .small)
+
+    blocks-few : d .stream .count ≤ 2 ^ 30
+    blocks-few =
+        let a : d .stream .hashsumLength < d .stream .blockSize = passed .1 .sound .above in
+        omega (arith, bytes-few, le-mul-of-pos-right {m = d .stream .blockSize} (d .stream .count) (omega arith))
+
+    stored-few : length (provedFile d block) ≤ 2 ^ 30
+    stored-few =
+        let l : blockData (d .stream) ≤ d .stream .blockSize = omega arith in
+        omega (
+          arith,
+          first-part-fits (d .stream) block m (proved-le d block (d .stream .count)) (whole-block image approved signature (passed .1))
+              (le-of-lt (passed .1 .sound .padded)),
+          mul-le-mul-left (d .stream .count) l,
+          bytes-few,
+        )
+
+    proving-fits : Fit (openAnswer d block)
+    proving-fits =
         record {
-          written = ap (λ (x : Outcome). x .answer) q;
-          code = ap (λ (x : Outcome). x .code) q;
-          place = sym (ap (λ (x : Bool). cond x (suc m) 0) (refused-code (13 ∷ 14 ∷ 15 ∷ []) tt c));
-          commands = refl;
-          stored = sym
-              (ap (λ (x : Bool). cond x (length (fileUpTo d block m)) 0) (refused-code (0 ∷ 13 ∷ 14 ∷ 15 ∷ []) tt c));
-          entry = refl;
-        },
-      )
-      go (proving l c q) = (
-        openAnswer d block m,
-        record {
-          written = ap (λ (x : Outcome). x .answer) q;
-          code = ap (λ (x : Outcome). x .code) q;
-          place = block-place (eqb m (d .count)) refl;
-          commands = refl;
-          stored = sym
-              (ap (λ (x : Bool). cond x (length (fileUpTo d block m)) 0)
-              (is-true (among (0 ∷ 13 ∷ 14 ∷ 15 ∷ []) (cond (eqb m (d .count)) 0 (blockCode d block m)))
-              (block-code (among (0 ∷ 13 ∷ 14 ∷ 15 ∷ [])) tt tt)));
-          entry = refl;
-        },
-      )
+          code = small (openAnswer d block .code) (block-code (λ (c : ℕ). ltb c 64) tt tt);
+          place = cond-cases (λ (s : Stop). s .place < 2 ^ 64) (eqb m (d .stream .count)) (stopAt 0 0)
+              (stopAt (blockCode d block m) (suc m)) (λ e. omega arith)
+              (λ e. omega (arith, proved-le d block (d .stream .count), blocks-few));
+          commands = omega arith;
+          stored = omega (arith, stored-few);
+          entry = omega arith;
+        }
+
+  pub answer-fits : Fit answer
+  answer-fits =
+      after-cases {A = ℕ} (firstBroken rules) (openAnswer d block) [] (λ (a : Answer) (xs : List ℕ). Fit a) proving-fits
+      (λ n. refused-fits)
 
 -- ---- pack
 

@@ -1,4 +1,4 @@
--- Laws of hashsums: their length, and that they are bytes.
+-- Laws of hashsums: their length.
 use mathlib.Core.Path.{_≡_, refl, ap₂, _∙_}
 use mathlib.Core.Bool.{Bool, true, false, true≢false, cond}
 use mathlib.Core.List.{List, [], _∷_}
@@ -8,10 +8,8 @@ use native.Mathlib.Omega.{arith}
 use borrow.Author.Tests.{eqb-true, eqb-false}
 use lib.Dec.{eqb}
 use lib.ListN.{length, getD, length-append}
-use Rattle.octets.specs.Parts.{Octets}
-use Rattle.octets.proofs.PartLaws.{octets-append}
 use Rattle.hashes.specs.Digests.{digest, digestLength}
-use Rattle.hashes.proofs.Theorems.{length-digest, octets-digest, digestLength-most, digestLength-high}
+use Rattle.hashes.proofs.Theorems.{length-digest, digestLength-most, digestLength-high}
 use Rattle.chain.specs.Hashsum.{hashsum, sumLength, anyUnknown}
 
 pub length-hashsum : (ids : List ℕ) (bytes : List ℕ) → length (hashsum ids bytes) ≡ sumLength ids
@@ -20,12 +18,6 @@ length-hashsum [] bytes = refl
 length-hashsum (id ∷ ids) bytes =
     length-append (digest id bytes) (hashsum ids bytes)
     ∙ ap₂ (λ (x y : ℕ). x + y) (length-digest id bytes) (length-hashsum ids bytes)
-
-pub octets-hashsum : (ids : List ℕ) (bytes : List ℕ) → Octets (hashsum ids bytes)
-unfolding hashsum
-octets-hashsum [] bytes = λ i. omega arith
-octets-hashsum (id ∷ ids) bytes =
-    octets-append (digest id bytes) (hashsum ids bytes) (octets-digest id bytes) (octets-hashsum ids bytes)
 
 pub sumLength-at-most : (ids : List ℕ) → sumLength ids ≤ 64 * length ids
 unfolding sumLength

@@ -3,6 +3,7 @@ use mathlib.Core.Path.{_≡_, refl, sym, ap, ap₂, subst, _∙_}
 use mathlib.Core.Bool.{Bool, true, false, not}
 use mathlib.Core.List.{List, [], _∷_, _++_, append-assoc, append-nil}
 use Prim.Native.Nat.{ℕ, _+_, _*_, _^_, _≤_, _<_}
+use native.Mathlib.Nat.{mul-le-mul-right, suc-mul}
 use native.Mathlib.Omega.{arith}
 use borrow.Author.Tests.{eqb-true, eqb-false, eq-eqb, ne-eqb, ltb-false, le-ltb, leb-false, lt-leb, not-false}
 use lib.Dec.{eqb, ltb}
@@ -14,10 +15,15 @@ use Rattle.octets.proofs.NumberLaws.{length-littleBytes, little-littleBytes-lt,
 use Rattle.octets.proofs.PartLaws.{length-part, part-add, octets-part}
 use Rattle.octets.proofs.TestLaws.{same-eq, eq-same}
 use Rattle.answers.specs.Rules.{Rule, rule, firstBroken, signatureRules, sizeRules}
-use Rattle.answers.proofs.RuleLaws.{zero-all-hold, all-hold-zero}
+use Rattle.answers.proofs.RuleLaws.{zero-all-hold, all-hold-zero, both-hold, hold-both}
+use Rattle.chain.specs.Blocks.{blockOf}
 use Rattle.chain.specs.Hashsum.{sumLength, anyUnknown}
-use Rattle.chain.specs.Header.{Header, headerOf, headerBytes, idBytes, dataLength, fieldRules, imageRules, streamRules, blocksStart}
-use Rattle.chain.proofs.RuleLaws.{both-hold, hold-both}
+use Rattle.chain.specs.Header.{Header, Stream, headerOf, headerMagic, headerSizeFor, headerBytes, idBytes, dataLength, imageLength}
+use Rattle.chain.specs.Header.{firstBlock, fieldRules, imageRules, streamRules}
+
+-- block data length
+abbrev pub blockData : Stream → ℕ
+blockData s = dataLength (s .blockSize) (s .hashsumLength)
 
 -- ---- what passes
 
@@ -25,65 +31,65 @@ not-true : (b : Bool) → b ≡ true → not b ≡ false
 not-true true e = refl
 not-true false e = sym e
 
--- 5 to 11, of an approved header of `size` bytes
-pub record Sound (d : Header) (size expected : ℕ) : Type 0 where
-  pub magic : d .magic ≡ 0xe6019598
-  pub first : getD (d .ids) 0 0 ≡ 0 → ⊥
-  pub known : anyUnknown (d .ids) ≡ false
-  pub hashsum : d .hashsumLength ≡ sumLength (d .ids)
-  pub header : d .headerSize ≡ 36 + d .hashsumLength
-  pub whole : d .headerSize ≡ size
+-- 5 to 11, of an approved header of `size` bytes, where a signature of so many is asked for
+pub record Sound (d : Header) (size asked : ℕ) : Type 0 where
+  pub magic : d .magic ≡ headerMagic
+  pub first : getD (d .stream .ids) 0 0 ≡ 0 → ⊥
+  pub known : anyUnknown (d .stream .ids) ≡ false
+  pub hashsum : d .stream .hashsumLength ≡ sumLength (d .stream .ids)
+  pub header : d .headerSize ≡ headerSizeFor (d .stream .hashsumLength)
+  pub approved : d .headerSize ≡ size
   pub scheme : d .scheme ≡ 1
-  pub signature : d .signature ≡ expected
-  pub some : 0 < d .count
-  pub above : d .hashsumLength < d .blockSize
-  pub below : d .blockSize ≤ 1048576
-  pub padded : d .padding < dataLength d
+  pub signature : d .signature ≡ asked
+  pub counted : 0 < d .stream .count
+  pub above : d .stream .hashsumLength < d .stream .blockSize
+  pub below : d .stream .blockSize ≤ 1048576
+  pub padded : d .stream .padding < blockData (d .stream)
 
-module _ (d : Header) (size expected : ℕ) where
-  pub sound : firstBroken (fieldRules d size expected) ≡ 0 → Sound d size expected
+module _ (d : Header) (size signature : ℕ) where
+  pub sound : firstBroken (fieldRules d size signature) ≡ 0 → Sound d size signature
   sound e =
-      let h = zero-all-hold (fieldRules d size expected) tt e in
+      let h = zero-all-hold (fieldRules d size signature) tt e in
       record {
-        magic = eqb-true (d .magic) 0xe6019598 (not-false _ (h .0));
-        first = eqb-false (getD (d .ids) 0 0) 0 (h .1 .0);
+        magic = eqb-true (d .magic) headerMagic (not-false _ (h .0));
+        first = eqb-false (getD (d .stream .ids) 0 0) 0 (h .1 .0);
         known = h .1 .1 .0;
-        hashsum = eqb-true (d .hashsumLength) (sumLength (d .ids)) (not-false _ (h .1 .1 .1 .0));
-        header = eqb-true (d .headerSize) (36 + d .hashsumLength) (not-false _ (h .1 .1 .1 .1 .0));
-        whole = eqb-true (d .headerSize) size (not-false _ (h .1 .1 .1 .1 .1 .0));
+        hashsum = eqb-true (d .stream .hashsumLength) (sumLength (d .stream .ids)) (not-false _ (h .1 .1 .1 .0));
+        header = eqb-true (d .headerSize) (headerSizeFor (d .stream .hashsumLength)) (not-false _ (h .1 .1 .1 .1 .0));
+        approved = eqb-true (d .headerSize) size (not-false _ (h .1 .1 .1 .1 .1 .0));
         scheme = eqb-true (d .scheme) 1 (not-false _ (h .1 .1 .1 .1 .1 .1 .0));
-        signature = eqb-true (d .signature) expected (not-false _ (h .1 .1 .1 .1 .1 .1 .1 .0));
-        some = let ne : (d .count ≡ 0 → ⊥) = eqb-false (d .count) 0 (h .1 .1 .1 .1 .1 .1 .1 .1 .0) in omega arith;
-        above = leb-false (d .blockSize) (d .hashsumLength) (h .1 .1 .1 .1 .1 .1 .1 .1 .1 .0);
-        below = ltb-false 1048576 (d .blockSize) (h .1 .1 .1 .1 .1 .1 .1 .1 .1 .1 .0);
-        padded = leb-false (dataLength d) (d .padding) (h .1 .1 .1 .1 .1 .1 .1 .1 .1 .1 .1 .0);
+        signature = eqb-true (d .signature) signature (not-false _ (h .1 .1 .1 .1 .1 .1 .1 .0));
+        counted = let ne : (d .stream .count ≡ 0 → ⊥) = eqb-false (d .stream .count) 0 (h .1 .1 .1 .1 .1 .1 .1 .1 .0) in omega arith;
+        above = leb-false (d .stream .blockSize) (d .stream .hashsumLength) (h .1 .1 .1 .1 .1 .1 .1 .1 .1 .0);
+        below = ltb-false 1048576 (d .stream .blockSize) (h .1 .1 .1 .1 .1 .1 .1 .1 .1 .1 .0);
+        padded = leb-false (blockData (d .stream)) (d .stream .padding) (h .1 .1 .1 .1 .1 .1 .1 .1 .1 .1 .1 .0);
       }
 
-  pub sound-passes : Sound d size expected → firstBroken (fieldRules d size expected) ≡ 0
+  pub sound-passes : Sound d size signature → firstBroken (fieldRules d size signature) ≡ 0
   sound-passes s =
-      all-hold-zero (fieldRules d size expected) (
-        not-true _ (eq-eqb (d .magic) 0xe6019598 (s .magic)),
+      all-hold-zero (fieldRules d size signature) (
+        not-true _ (eq-eqb (d .magic) headerMagic (s .magic)),
         (
-          ne-eqb (getD (d .ids) 0 0) 0 (s .first),
+          ne-eqb (getD (d .stream .ids) 0 0) 0 (s .first),
           (
             s .known,
             (
-              not-true _ (eq-eqb (d .hashsumLength) (sumLength (d .ids)) (s .hashsum)),
+              not-true _ (eq-eqb (d .stream .hashsumLength) (sumLength (d .stream .ids)) (s .hashsum)),
               (
-                not-true _ (eq-eqb (d .headerSize) (36 + d .hashsumLength) (s .header)),
+                not-true _ (eq-eqb (d .headerSize) (headerSizeFor (d .stream .hashsumLength)) (s .header)),
                 (
-                  not-true _ (eq-eqb (d .headerSize) size (s .whole)),
+                  not-true _ (eq-eqb (d .headerSize) size (s .approved)),
                   (
                     not-true _ (eq-eqb (d .scheme) 1 (s .scheme)),
                     (
-                      not-true _ (eq-eqb (d .signature) expected (s .signature)),
+                      not-true _ (eq-eqb (d .signature) signature (s .signature)),
                       (
-                        ne-eqb (d .count) 0 (λ e. let p : 0 < d .count = s .some in omega arith),
+                        ne-eqb (d .stream .count) 0 (λ e. let p : 0 < d .stream .count = s .counted in omega arith),
                         (
-                          lt-leb (d .blockSize) (d .hashsumLength) (s .above),
+                          lt-leb (d .stream .blockSize) (d .stream .hashsumLength) (s .above),
                           (
-                            le-ltb 1048576 (d .blockSize) (s .below),
-                            (lt-leb (dataLength d) (d .padding) (s .padded), tt),
+                            le-ltb 1048576 (d .stream .blockSize) (s .below),
+                            (lt-leb (blockData (d .stream)) (d .stream .padding) (s .padded), tt),
                           ),
                         ),
                       ),
@@ -97,25 +103,25 @@ module _ (d : Header) (size expected : ℕ) where
       )
 
 -- 4 to 12
-pub record Passed (image approved : List ℕ) (expected : ℕ) : Type 0 where
+pub record Passed (image approved : List ℕ) (signature : ℕ) : Type 0 where
   pub enough : 36 ≤ length approved
   pub begins : take (length approved) image ≡ approved
-  pub sound : Sound (headerOf approved) (length approved) expected
-  pub exact : length image ≡ blocksStart approved + headerOf approved .count * headerOf approved .blockSize
+  pub sound : Sound (headerOf approved) (length approved) signature
+  pub exact : length image ≡ imageLength (headerOf approved)
 
-module _ (image approved : List ℕ) (expected : ℕ) where
+module _ (image approved : List ℕ) (signature : ℕ) where
   beginning : List Rule
   beginning = rule 4 (ltb (length approved) 36) ∷ rule 4 (not (same (take (length approved) image) approved)) ∷ []
 
   fields : List Rule
-  fields = fieldRules (headerOf approved) (length approved) expected
+  fields = fieldRules (headerOf approved) (length approved) signature
 
   exactly : List Rule
   exactly =
-      rule 12 (not (eqb (length image) (blocksStart approved + headerOf approved .count * headerOf approved .blockSize)))
+      rule 12 (not (eqb (length image) (imageLength (headerOf approved))))
       ∷ []
 
-  pub passed : firstBroken (imageRules image approved expected) ≡ 0 → Passed image approved expected
+  pub passed : firstBroken (imageRules image approved signature) ≡ 0 → Passed image approved signature
   unfolding beginning fields exactly
   passed e =
       let a = both-hold beginning (fields ++ exactly) tt e in
@@ -124,12 +130,12 @@ module _ (image approved : List ℕ) (expected : ℕ) where
       record {
         enough = ltb-false (length approved) 36 (h .0);
         begins = same-eq (take (length approved) image) approved (not-false _ (h .1 .0));
-        sound = sound (headerOf approved) (length approved) expected (b .0);
-        exact = eqb-true (length image) (blocksStart approved + headerOf approved .count * headerOf approved .blockSize)
+        sound = sound (headerOf approved) (length approved) signature (b .0);
+        exact = eqb-true (length image) (imageLength (headerOf approved))
             (not-false _ (zero-all-hold exactly tt (b .1) .0));
       }
 
-  pub passed-passes : Passed image approved expected → firstBroken (imageRules image approved expected) ≡ 0
+  pub passed-passes : Passed image approved signature → firstBroken (imageRules image approved signature) ≡ 0
   unfolding beginning fields exactly
   passed-passes p =
       hold-both beginning (fields ++ exactly) tt
@@ -137,17 +143,29 @@ module _ (image approved : List ℕ) (expected : ℕ) where
         le-ltb (length approved) 36 (p .enough),
         (not-true _ (eq-same (take (length approved) image) approved (p .begins)), tt),
       ))
-      (hold-both fields exactly tt (sound-passes (headerOf approved) (length approved) expected (p .sound))
+      (hold-both fields exactly tt (sound-passes (headerOf approved) (length approved) signature (p .sound))
       (all-hold-zero exactly (
         not-true _
-            (eq-eqb (length image) (blocksStart approved + headerOf approved .count * headerOf approved .blockSize) (p .exact)),
+            (eq-eqb (length image) (imageLength (headerOf approved)) (p .exact)),
         tt,
       )))
 
+-- every block of an image that passed is whole
+module _ (image approved : List ℕ) (signature : ℕ) (q : Passed image approved signature) (k : ℕ)
+    (h : k < headerOf approved .stream .count) where
+  abbrev blockLength : ℕ
+  blockLength = headerOf approved .stream .blockSize
+
+  pub block-ends : firstBlock (headerOf approved) + k * blockLength + blockLength ≤ length image
+  block-ends = omega (arith, q .exact, mul-le-mul-right blockLength h, suc-mul k blockLength)
+
+  pub whole-block : length (blockOf image (headerOf approved) k) ≡ blockLength
+  whole-block = length-part image (firstBlock (headerOf approved) + k * blockLength) blockLength block-ends
+
 -- 1, of the signature length and of the image's
 pub record Allowed (signature size : ℕ) : Type 0 where
-  pub some : 0 < signature
-  pub few : signature ≤ 4096
+  pub signed : 0 < signature
+  pub short : signature ≤ 4096
   pub small : size ≤ 2 ^ 30
 
 module _ (signature size : ℕ) where
@@ -155,30 +173,30 @@ module _ (signature size : ℕ) where
   allowed e =
       let h = zero-all-hold (signatureRules signature ++ sizeRules size) tt e in
       record {
-        some = let ne : (signature ≡ 0 → ⊥) = eqb-false signature 0 (h .0) in omega arith;
-        few = ltb-false 4096 signature (h .1 .0);
+        signed = let ne : (signature ≡ 0 → ⊥) = eqb-false signature 0 (h .0) in omega arith;
+        short = ltb-false 4096 signature (h .1 .0);
         small = ltb-false (2 ^ 30) size (h .1 .1 .0);
       }
 
   pub allowed-passes : Allowed signature size → firstBroken (signatureRules signature ++ sizeRules size) ≡ 0
   allowed-passes a =
       all-hold-zero (signatureRules signature ++ sizeRules size) (
-        ne-eqb signature 0 (λ e. let p : 0 < signature = a .some in omega arith),
-        (le-ltb 4096 signature (a .few), (le-ltb (2 ^ 30) size (a .small), tt)),
+        ne-eqb signature 0 (λ e. let p : 0 < signature = a .signed in omega arith),
+        (le-ltb 4096 signature (a .short), (le-ltb (2 ^ 30) size (a .small), tt)),
       )
 
-module _ (image approved : List ℕ) (expected : ℕ) where
-  pub stream-passes : Allowed expected (length image) → Passed image approved expected
-      → firstBroken (streamRules image approved expected) ≡ 0
+module _ (image approved : List ℕ) (signature : ℕ) where
+  pub stream-passes : Allowed signature (length image) → Passed image approved signature
+      → firstBroken (streamRules image approved signature) ≡ 0
   stream-passes a p =
-      hold-both (signatureRules expected ++ sizeRules (length image)) (imageRules image approved expected) tt
-      (allowed-passes expected (length image) a) (passed-passes image approved expected p)
+      hold-both (signatureRules signature ++ sizeRules (length image)) (imageRules image approved signature) tt
+      (allowed-passes signature (length image) a) (passed-passes image approved signature p)
 
-  pub stream-passed : firstBroken (streamRules image approved expected) ≡ 0
-      → Allowed expected (length image) × Passed image approved expected
+  pub stream-passed : firstBroken (streamRules image approved signature) ≡ 0
+      → Allowed signature (length image) × Passed image approved signature
   stream-passed e =
-      let h = both-hold (signatureRules expected ++ sizeRules (length image)) (imageRules image approved expected) tt e in
-      (allowed expected (length image) (h .0), passed image approved expected (h .1))
+      let h = both-hold (signatureRules signature ++ sizeRules (length image)) (imageRules image approved signature) tt e in
+      (allowed signature (length image) (h .0), passed image approved signature (h .1))
 
 -- ---- written, then read
 
@@ -189,7 +207,7 @@ length-ids (id ∷ ids) =
     simp (length-append, length-littleBytes, length-ids ids) (omega arith)
 
 -- header size = 36 + hashsum length
-pub length-header : (d : Header) → length (d .ids) ≡ 4 → length (headerBytes d) ≡ 36 + length (d .root)
+pub length-header : (d : Header) → length (d .stream .ids) ≡ 4 → length (headerBytes d) ≡ 36 + length (d .root)
 unfolding headerBytes
 length-header d four =
     simp (length-append, length-littleBytes, length-ids) (omega arith)
@@ -197,28 +215,30 @@ length-header d four =
 -- each field fits its bytes
 pub record Narrow (d : Header) : Type 0 where
   pub magic : d .magic < 256 ^ 4
-  pub count : d .count < 256 ^ 4
-  pub blockSize : d .blockSize < 256 ^ 4
+  pub count : d .stream .count < 256 ^ 4
+  pub blockSize : d .stream .blockSize < 256 ^ 4
   pub signature : d .signature < 256 ^ 4
   pub headerSize : d .headerSize < 256 ^ 2
-  pub hashsumLength : d .hashsumLength < 256 ^ 2
-  pub four : length (d .ids) ≡ 4
-  pub ids : (i : ℕ) → getD (d .ids) i 0 < 256 ^ 2
+  pub hashsumLength : d .stream .hashsumLength < 256 ^ 2
+  pub four : length (d .stream .ids) ≡ 4
+  pub ids : (i : ℕ) → getD (d .stream .ids) i 0 < 256 ^ 2
   pub scheme : d .scheme < 256 ^ 2
-  pub padding : d .padding < 256 ^ 4
+  pub padding : d .stream .padding < 256 ^ 4
 
 abbrev withIds : Header → List ℕ → Header
 withIds d ids =
     record {
       magic = d .magic;
-      count = d .count;
-      blockSize = d .blockSize;
+      stream = record {
+        count = d .stream .count;
+        blockSize = d .stream .blockSize;
+        hashsumLength = d .stream .hashsumLength;
+        ids = ids;
+        padding = d .stream .padding;
+      };
       signature = d .signature;
       headerSize = d .headerSize;
-      hashsumLength = d .hashsumLength;
-      ids = ids;
       scheme = d .scheme;
-      padding = d .padding;
       root = d .root;
     }
 
@@ -237,29 +257,31 @@ each-of-four ids four =
     (drop-cons ids 3 0 (omega arith)
     ∙ ap (λ (t : List ℕ). getD ids 3 0 ∷ t) (drop-of-length-le ids {i = 4} (omega arith)))))
 
-read-four : (d : Header) → Narrow d → headerOf (headerBytes (withIds d (each (d .ids)))) ≡ withIds d (each (d .ids))
+read-four : (d : Header) → Narrow d → headerOf (headerBytes (withIds d (each (d .stream .ids)))) ≡ withIds d (each (d .stream .ids))
 unfolding headerBytes idBytes littleBytes
 read-four d n = λ i.
     record {
       magic = little-littleBytes-lt 4 (d .magic) (n .magic) i;
-      count = little-littleBytes-lt 4 (d .count) (n .count) i;
-      blockSize = little-littleBytes-lt 4 (d .blockSize) (n .blockSize) i;
+      stream = record {
+        count = little-littleBytes-lt 4 (d .stream .count) (n .count) i;
+        blockSize = little-littleBytes-lt 4 (d .stream .blockSize) (n .blockSize) i;
+        hashsumLength = little-littleBytes-lt 2 (d .stream .hashsumLength) (n .hashsumLength) i;
+        ids = little-littleBytes-lt 2 (getD (d .stream .ids) 0 0) (n .ids 0) i
+            ∷ little-littleBytes-lt 2 (getD (d .stream .ids) 1 0) (n .ids 1) i
+            ∷ little-littleBytes-lt 2 (getD (d .stream .ids) 2 0) (n .ids 2) i
+            ∷ little-littleBytes-lt 2 (getD (d .stream .ids) 3 0) (n .ids 3) i
+            ∷ [];
+        padding = little-littleBytes-lt 4 (d .stream .padding) (n .padding) i;
+      };
       signature = little-littleBytes-lt 4 (d .signature) (n .signature) i;
       headerSize = little-littleBytes-lt 2 (d .headerSize) (n .headerSize) i;
-      hashsumLength = little-littleBytes-lt 2 (d .hashsumLength) (n .hashsumLength) i;
-      ids = little-littleBytes-lt 2 (getD (d .ids) 0 0) (n .ids 0) i
-          ∷ little-littleBytes-lt 2 (getD (d .ids) 1 0) (n .ids 1) i
-          ∷ little-littleBytes-lt 2 (getD (d .ids) 2 0) (n .ids 2) i
-          ∷ little-littleBytes-lt 2 (getD (d .ids) 3 0) (n .ids 3) i
-          ∷ [];
       scheme = little-littleBytes-lt 2 (d .scheme) (n .scheme) i;
-      padding = little-littleBytes-lt 4 (d .padding) (n .padding) i;
       root = d .root;
     }
 
 pub read-written : (d : Header) → Narrow d → headerOf (headerBytes d) ≡ d
 read-written d n =
-    subst (λ (h : Header). headerOf (headerBytes h) ≡ h) (sym (ap (withIds d) (each-of-four (d .ids) (n .four))))
+    subst (λ (h : Header). headerOf (headerBytes h) ≡ h) (sym (ap (withIds d) (each-of-four (d .stream .ids) (n .four))))
     (read-four d n)
 
 reserved : littleBytes 2 0 ≡ 0 ∷ 0 ∷ []
@@ -274,7 +296,7 @@ module _ (h : List ℕ) (bytes : Octets h) (enough : 36 ≤ length h) where
       ap (λ (k : ℕ). littleBytes k (little (part h at n))) (sym (length-part h at n fits))
       ∙ littleBytes-little (part h at n) (octets-part h at n bytes)
 
-  ids-written : idBytes (headerOf h .ids) ≡ part h 20 8
+  ids-written : idBytes (headerOf h .stream .ids) ≡ part h 20 8
   unfolding idBytes
   ids-written =
       ap₂ (λ (s t : List ℕ). s ++ t) (rewritten 20 2 (omega arith))
@@ -293,7 +315,7 @@ module _ (h : List ℕ) (bytes : Octets h) (enough : 36 ≤ length h) where
   pub written-read : headerBytes (headerOf h) ≡ put h 30 (0 ∷ 0 ∷ [])
   unfolding headerBytes
   written-read =
-      ap₂ (λ (a b : List ℕ). a ++ b ++ littleBytes 4 (headerOf h .padding) ++ drop 36 h)
+      ap₂ (λ (a b : List ℕ). a ++ b ++ littleBytes 4 (headerOf h .stream .padding) ++ drop 36 h)
       (further _ _ 28 2
       (further _ _ 20 8
       (further _ _ 18 2

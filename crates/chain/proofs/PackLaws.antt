@@ -14,7 +14,8 @@ use Rattle.octets.proofs.PartLaws.{length-part}
 use Rattle.answers.specs.Rules.{firstBroken}
 use Rattle.answers.proofs.RuleLaws.{zero-all-hold, all-hold-zero}
 use Rattle.chain.specs.Hashsum.{hashsum, sumLength, anyUnknown}
-use Rattle.chain.specs.Pack.{Order, room, blocks, padding, imageLength, packRules, chunk, link, blocksFrom, packedHeader, image}
+use Rattle.chain.specs.Header.{imageLength}
+use Rattle.chain.specs.Pack.{Order, room, blocks, padding, packRules, chunk, link, blocksFrom, packedHeader, image}
 use Rattle.chain.proofs.HashsumLaws.{length-hashsum}
 use Rattle.chain.proofs.HeaderLaws.{Allowed, allowed, length-header}
 
@@ -26,10 +27,10 @@ pub record Packable (p : Order) : Type 0 where
   pub known : anyUnknown (p .ids) ≡ false
   pub above : sumLength (p .ids) < p .blockSize
   pub below : p .blockSize ≤ 1048576
-  pub some : 0 < length (p .file)
-  pub allowed : Allowed (p .signature) (imageLength p)
+  pub filled : 0 < length (p .file)
+  pub allowed : Allowed (p .signature) (imageLength (packedHeader p))
 
-pub packable : (p : Order) (output : ℕ) → firstBroken (packRules p output) ≡ 0 → Packable p × (output ≡ imageLength p)
+pub packable : (p : Order) (output : ℕ) → firstBroken (packRules p output) ≡ 0 → Packable p × (output ≡ imageLength (packedHeader p))
 packable p output e =
     let h = zero-all-hold (packRules p output) tt e in (
       record {
@@ -37,17 +38,17 @@ packable p output e =
         known = h .1 .0;
         above = leb-false (p .blockSize) (sumLength (p .ids)) (h .1 .1 .0);
         below = ltb-false 1048576 (p .blockSize) (h .1 .1 .1 .0);
-        some = let ne : (length (p .file) ≡ 0 → ⊥) = eqb-false (length (p .file)) 0 (h .1 .1 .1 .1 .0) in omega arith;
+        filled = let ne : (length (p .file) ≡ 0 → ⊥) = eqb-false (length (p .file)) 0 (h .1 .1 .1 .1 .0) in omega arith;
         allowed = record {
-          some = let ne : (p .signature ≡ 0 → ⊥) = eqb-false (p .signature) 0 (h .1 .1 .1 .1 .1 .0) in omega arith;
-          few = ltb-false 4096 (p .signature) (h .1 .1 .1 .1 .1 .1 .0);
-          small = ltb-false (2 ^ 30) (imageLength p) (h .1 .1 .1 .1 .1 .1 .1 .0);
+          signed = let ne : (p .signature ≡ 0 → ⊥) = eqb-false (p .signature) 0 (h .1 .1 .1 .1 .1 .0) in omega arith;
+          short = ltb-false 4096 (p .signature) (h .1 .1 .1 .1 .1 .1 .0);
+          small = ltb-false (2 ^ 30) (imageLength (packedHeader p)) (h .1 .1 .1 .1 .1 .1 .1 .0);
         };
       },
-      eqb-true output (imageLength p) (not-false _ (h .1 .1 .1 .1 .1 .1 .1 .1 .0)),
+      eqb-true output (imageLength (packedHeader p)) (not-false _ (h .1 .1 .1 .1 .1 .1 .1 .1 .0)),
     )
 
-pub packable-passes : (p : Order) (output : ℕ) → Packable p → output ≡ imageLength p → firstBroken (packRules p output) ≡ 0
+pub packable-passes : (p : Order) (output : ℕ) → Packable p → output ≡ imageLength (packedHeader p) → firstBroken (packRules p output) ≡ 0
 packable-passes p output k e =
     all-hold-zero (packRules p output) (
       ne-eqb (getD (p .ids) 0 0) 0 (k .first),
@@ -58,14 +59,14 @@ packable-passes p output k e =
           (
             le-ltb 1048576 (p .blockSize) (k .below),
             (
-              ne-eqb (length (p .file)) 0 (λ z. let l : 0 < length (p .file) = k .some in omega arith),
+              ne-eqb (length (p .file)) 0 (λ z. let l : 0 < length (p .file) = k .filled in omega arith),
               (
-                ne-eqb (p .signature) 0 (λ z. let l : 0 < p .signature = k .allowed .some in omega arith),
+                ne-eqb (p .signature) 0 (λ z. let l : 0 < p .signature = k .allowed .signed in omega arith),
                 (
-                  le-ltb 4096 (p .signature) (k .allowed .few),
+                  le-ltb 4096 (p .signature) (k .allowed .short),
                   (
-                    le-ltb (2 ^ 30) (imageLength p) (k .allowed .small),
-                    (ap not (eq-eqb output (imageLength p) e), tt),
+                    le-ltb (2 ^ 30) (imageLength (packedHeader p)) (k .allowed .small),
+                    (ap not (eq-eqb output (imageLength (packedHeader p)) e), tt),
                   ),
                 ),
               ),
@@ -137,7 +138,7 @@ module _ (p : Order) (ok : Packable p) where
   room-pos = let h : sumLength (p .ids) < p .blockSize = ok .above in omega arith
 
   pub blocks-fewest : Fewest (length (p .file)) (room p) (blocks p)
-  blocks-fewest = fewest (length (p .file)) (room p) room-pos (ok .some)
+  blocks-fewest = fewest (length (p .file)) (room p) room-pos (ok .filled)
 
   pub padding-small : padding p < room p
   padding-small =
@@ -171,7 +172,7 @@ module _ (p : Order) (ok : Packable p) where
       ∙ ap₂ (λ (x y : ℕ). x + y) (length-block j k (omega arith)) (length-blocks j (suc k) (omega arith))
       ∙ omega arith
 
-  pub length-image : length (p .ids) ≡ 4 → length (image p) ≡ imageLength p
+  pub length-image : length (p .ids) ≡ 4 → length (image p) ≡ imageLength (packedHeader p)
   unfolding image
   length-image four =
       let e : length (blocksFrom p (blocks p) 0) ≡ blocks p * p .blockSize = length-blocks (blocks p) 0 (omega arith) in

@@ -10,8 +10,8 @@ use Rattle.octets.specs.Parts.{part, put}
 use Rattle.octets.proofs.PartLaws.{put-beside}
 use Rattle.chain.specs.Blocks.{paddingOf}
 use Rattle.chain.specs.Hashsum.{sumLength}
-use Rattle.chain.specs.Header.{headerBytes}
-use Rattle.chain.specs.Pack.{Order, room, blocks, padding, imageLength, chunk, link, blocksFrom, packedHeader, image}
+use Rattle.chain.specs.Header.{headerBytes, imageLength}
+use Rattle.chain.specs.Pack.{Order, room, blocks, padding, chunk, link, blocksFrom, packedHeader, image}
 use Rattle.chain.proofs.BlockLaws.{unpadded}
 use Rattle.chain.proofs.HeaderLaws.{length-header}
 use Rattle.chain.proofs.PackLaws.{Packable, padding-small, padding-fills, within, length-block, length-link, blocks-more}
@@ -25,7 +25,8 @@ drop-put s at v h =
     ∙ drop-at (take at s) (v ++ drop (at + length v) s) at (length-take-le at s (omega arith))
 
 -- put side by side from an offset on
-pub put-next : (s v w : List ℕ) (at k : ℕ) {t u : List ℕ} → t ≡ put s at v → u ≡ put t (at + k) w → length v ≡ k → at + k + length w ≤ length s
+pub put-next : (s v w : List ℕ) (at k : ℕ) {t u : List ℕ} → t ≡ put s at v → u ≡ put t (at + k) w → length v ≡ k
+    → at + k + length w ≤ length s
     → u ≡ put s at (v ++ w)
 put-next s v w at k e f l h = f ∙ ap (λ (x : List ℕ). put x (at + k) w) e ∙ put-beside s at k v w l h
 
@@ -33,8 +34,8 @@ module _ (p : Order) (ok : Packable p) where
   -- ---- the data of block k: the padding's zeros in the first, then the file's bytes from where it has come to
 
   pub chunk-is : (k : ℕ) → chunk p k
-      ≡ replicate (paddingOf (packedHeader p) k) 0
-      ++ part (p .file) (k * room p - padding p) (room p - paddingOf (packedHeader p) k)
+      ≡ replicate (paddingOf (packedHeader p .stream) k) 0
+      ++ part (p .file) (k * room p - padding p) (room p - paddingOf (packedHeader p .stream) k)
   chunk-is zero =
       let zeros : List ℕ = replicate (padding p) 0 in
       let small : padding p < room p = padding-small p ok in
@@ -53,11 +54,11 @@ module _ (p : Order) (ok : Packable p) where
       ∙ ap (λ (t : List ℕ). take (room p) t) (drop-append-add zeros (p .file) (suc k * room p - padding p))
       ∙ ap (λ (n : ℕ). part (p .file) (suc k * room p - padding p) n) (sym (sub-zero (room p)))
       ∙ ap (λ (n : ℕ). replicate n 0 ++ part (p .file) (suc k * room p - padding p) (room p - n))
-      (sym (unpadded (packedHeader p) k))
+      (sym (unpadded (packedHeader p .stream) k))
 
   -- those bytes are in the file
   pub chunk-within : (k : ℕ) → k < blocks p
-      → k * room p - padding p + (room p - paddingOf (packedHeader p) k) ≤ length (p .file)
+      → k * room p - padding p + (room p - paddingOf (packedHeader p .stream) k) ≤ length (p .file)
   chunk-within zero h =
       let f : padding p + length (p .file) ≡ blocks p * room p = padding-fills p ok in
       omega (arith, within p ok zero h)
@@ -82,7 +83,7 @@ module _ (p : Order) (ok : Packable p) where
 
   -- ---- before the blocks, signature field and header
 
-  pub image-written : length (p .ids) ≡ 4 → (s : List ℕ) → length s ≡ imageLength p
+  pub image-written : length (p .ids) ≡ 4 → (s : List ℕ) → length s ≡ imageLength (packedHeader p)
       → drop (36 + sumLength (p .ids) + p .signature) s ≡ blocksFrom p (blocks p) 0
       → put (put s (36 + sumLength (p .ids)) (replicate (p .signature) 0)) 0 (headerBytes (packedHeader p)) ≡ image p
   unfolding image

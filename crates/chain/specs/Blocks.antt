@@ -5,43 +5,44 @@ use Prim.Native.Nat.{ℕ, zero, suc, _+_, _*_}
 use lib.Dec.{eqb}
 use lib.ListN.{take, drop}
 use Rattle.octets.specs.Parts.{part, same, allZero}
+use Rattle.answers.specs.Answers.{stopAt}
 use Rattle.answers.specs.Rules.{Rule, rule, firstBroken}
+use Rattle.answers.specs.declared.Stop.{Stop}
 use Rattle.chain.specs.Hashsum.{hashsum}
-use Rattle.chain.specs.Header.{Header, headerOf, blocksStart}
+use Rattle.chain.specs.Header.{Header, Stream, firstBlock}
 
 -- Blocks are numbered from 0 here; a place is one more. A block is the hashsum of the next block, then data.
-abbrev pub hashField : Header → List ℕ → List ℕ
-hashField d block = take (d .hashsumLength) block
+abbrev pub hashField : Stream → List ℕ → List ℕ
+hashField s block = take (s .hashsumLength) block
 
 -- padding is zero bytes at the front of the first block's data
-abbrev pub paddingOf : Header → ℕ → ℕ
-paddingOf d k = cond (eqb k 0) (d .padding) 0
+abbrev pub paddingOf : Stream → ℕ → ℕ
+paddingOf s k = cond (eqb k 0) (s .padding) 0
 
 -- 13 hashsum differs; 14 padding not zero; 15 last hash field not zero
-abbrev pub blockRules : Header → ℕ → List ℕ → List ℕ → List Rule
-blockRules d k expected block =
-    rule 13 (not (same (hashsum (d .ids) block) expected))
-    ∷ rule 14 (not (allZero (part block (d .hashsumLength) (paddingOf d k))))
-    ∷ rule 15 (cond (eqb (suc k) (d .count)) (not (allZero (hashField d block))) false)
+abbrev pub blockRules : Stream → ℕ → List ℕ → List ℕ → List Rule
+blockRules s k expected block =
+    rule 13 (not (same (hashsum (s .ids) block) expected))
+    ∷ rule 14 (not (allZero (part block (s .hashsumLength) (paddingOf s k))))
+    ∷ rule 15 (cond (eqb (suc k) (s .count)) (not (allZero (hashField s block))) false)
     ∷ []
 
 -- the file's bytes in a block: its data behind the padding
-abbrev pub fileBytes : Header → ℕ → List ℕ → List ℕ
-fileBytes d k block = drop (d .hashsumLength + paddingOf d k) block
+abbrev pub fileBytes : Stream → ℕ → List ℕ → List ℕ
+fileBytes s k block = drop (s .hashsumLength + paddingOf s k) block
 
 -- block k of an image
-abbrev pub blockOf : List ℕ → List ℕ → ℕ → List ℕ
-blockOf image approved k =
-    part image (blocksStart approved + k * headerOf approved .blockSize) (headerOf approved .blockSize)
+abbrev pub blockOf : List ℕ → Header → ℕ → List ℕ
+blockOf image d k = part image (firstBlock d + k * d .stream .blockSize) (d .stream .blockSize)
 
 -- the root hash is that of the first block; each block has the hashsum of the next
 abbrev pub expected : Header → (ℕ → List ℕ) → ℕ → List ℕ
 expected d block zero = d .root
-expected d block (suc k) = hashField d (block k)
+expected d block (suc k) = hashField (d .stream) (block k)
 
 -- the code that block k gets, 0 where it passes
 abbrev pub blockCode : Header → (ℕ → List ℕ) → ℕ → ℕ
-blockCode d block k = firstBroken (blockRules d k (expected d block k) (block k))
+blockCode d block k = firstBroken (blockRules (d .stream) k (expected d block k) (block k))
 
 -- how many of the first n blocks are proved: a block is when it passes and all before it are proved
 unfoldable pub proved : Header → (ℕ → List ℕ) → ℕ → ℕ
@@ -49,7 +50,19 @@ proved d block zero = zero
 proved d block (suc n) =
     cond (eqb (proved d block n) n) (cond (eqb (blockCode d block n) 0) (suc n) n) (proved d block n)
 
+-- of all of them
+abbrev pub provedBlocks : Header → (ℕ → List ℕ) → ℕ
+provedBlocks d block = proved d block (d .stream .count)
+
+-- what is said of block m where it is bad: its code, at its place
+abbrev pub badBlock : Header → (ℕ → List ℕ) → ℕ → Stop
+badBlock d block m = stopAt (blockCode d block m) (suc m)
+
+-- why not the next, where m are proved: all are, or that is bad
+abbrev pub blocksStop : Header → (ℕ → List ℕ) → ℕ → Stop
+blocksStop d block m = cond (eqb m (d .stream .count)) (stopAt 0 0) (badBlock d block m)
+
 -- the file's bytes in the first n blocks
-unfoldable pub fileUpTo : Header → (ℕ → List ℕ) → ℕ → List ℕ
-fileUpTo d block zero = []
-fileUpTo d block (suc n) = fileUpTo d block n ++ fileBytes d n (block n)
+unfoldable pub fileUpTo : Stream → (ℕ → List ℕ) → ℕ → List ℕ
+fileUpTo s block zero = []
+fileUpTo s block (suc n) = fileUpTo s block n ++ fileBytes s n (block n)

@@ -9,19 +9,21 @@ use Rattle.octets.specs.Parts.{part, same}
 use Rattle.answers.specs.Rules.{Rule, rule, signatureRules, sizeRules}
 use Rattle.chain.specs.Hashsum.{sumLength, idRules}
 
--- the fields by name, and the root hash behind them
-pub record Header : Type 0 where
-  pub magic : ℕ
-  -- block count, block size, signature data length
+-- what a header says of its blocks: their count and size, the length of a hashsum, the hash IDs 1 to 4, the padding length
+pub record Stream : Type 0 where
   pub count : ℕ
   pub blockSize : ℕ
+  pub hashsumLength : ℕ
+  pub ids : List ℕ
+  pub padding : ℕ
+
+-- the fields by name, and the root hash behind them; `signature` is the signature data length
+pub record Header : Type 0 where
+  pub magic : ℕ
+  pub stream : Stream
   pub signature : ℕ
   pub headerSize : ℕ
-  pub hashsumLength : ℕ
-  -- hash IDs 1 to 4
-  pub ids : List ℕ
   pub scheme : ℕ
-  pub padding : ℕ
   pub root : List ℕ
 
 -- the fields as they stand in the approved header, little-endian; reserved ones are ignored on reading
@@ -29,14 +31,16 @@ abbrev pub headerOf : List ℕ → Header
 headerOf h =
     record {
       magic = little (part h 0 4);
-      count = little (part h 4 4);
-      blockSize = little (part h 8 4);
+      stream = record {
+        count = little (part h 4 4);
+        blockSize = little (part h 8 4);
+        hashsumLength = little (part h 18 2);
+        ids = little (part h 20 2) ∷ little (part h 22 2) ∷ little (part h 24 2) ∷ little (part h 26 2) ∷ [];
+        padding = little (part h 32 4);
+      };
       signature = little (part h 12 4);
       headerSize = little (part h 16 2);
-      hashsumLength = little (part h 18 2);
-      ids = little (part h 20 2) ∷ little (part h 22 2) ∷ little (part h 24 2) ∷ little (part h 26 2) ∷ [];
       scheme = little (part h 28 2);
-      padding = little (part h 32 4);
       root = drop 36 h;
     }
 
@@ -48,9 +52,9 @@ idBytes (id ∷ ids) = littleBytes 2 id ++ idBytes ids
 -- the fields in their order; reserved ones are written as zero
 unfoldable pub headerBytes : Header → List ℕ
 headerBytes d =
-    littleBytes 4 (d .magic) ++ littleBytes 4 (d .count) ++ littleBytes 4 (d .blockSize) ++ littleBytes 4 (d .signature)
-    ++ littleBytes 2 (d .headerSize) ++ littleBytes 2 (d .hashsumLength) ++ idBytes (d .ids) ++ littleBytes 2 (d .scheme)
-    ++ littleBytes 2 0 ++ littleBytes 4 (d .padding) ++ d .root
+    littleBytes 4 (d .magic) ++ littleBytes 4 (d .stream .count) ++ littleBytes 4 (d .stream .blockSize)
+    ++ littleBytes 4 (d .signature) ++ littleBytes 2 (d .headerSize) ++ littleBytes 2 (d .stream .hashsumLength)
+    ++ idBytes (d .stream .ids) ++ littleBytes 2 (d .scheme) ++ littleBytes 2 0 ++ littleBytes 4 (d .stream .padding) ++ d .root
 
 -- the magic at the start of each signed header
 abbrev pub headerMagic : ℕ
@@ -61,51 +65,54 @@ abbrev pub headerSizeFor : ℕ → ℕ
 headerSizeFor sum = 36 + sum
 
 -- block data length = block size - hashsum length
-abbrev pub dataLength : Header → ℕ
-dataLength d = d .blockSize - d .hashsumLength
+abbrev pub dataLength : ℕ → ℕ → ℕ
+dataLength blockSize hashsumLength = blockSize - hashsumLength
 
 -- file length = block count x block data length - padding length
-abbrev pub fileLength : Header → ℕ
-fileLength d = d .count * dataLength d - d .padding
+abbrev pub fileLength : Stream → ℕ
+fileLength s = s .count * dataLength (s .blockSize) (s .hashsumLength) - s .padding
+
+-- the image is header, signature field, blocks: where the first block begins, and the image's length
+abbrev pub firstBlock : Header → ℕ
+firstBlock d = d .headerSize + d .signature
+
+abbrev pub imageLength : Header → ℕ
+imageLength d = firstBlock d + d .stream .count * d .stream .blockSize
 
 -- 11: block size at most the hashsum length or over 1,048,576
 abbrev pub blockSizeRules : ℕ → ℕ → List Rule
-blockSizeRules size sum = rule 11 (leb size sum) ∷ rule 11 (ltb 1048576 size) ∷ []
+blockSizeRules blockSize hashsumLength = rule 11 (leb blockSize hashsumLength) ∷ rule 11 (ltb 1048576 blockSize) ∷ []
 
 -- 11: block count 0; the block size; padding at least the block data length
-abbrev pub countRules : Header → List Rule
-countRules d =
-    rule 11 (eqb (d .count) 0)
-    ∷ blockSizeRules (d .blockSize) (d .hashsumLength)
-    ++ rule 11 (leb (dataLength d) (d .padding))
+abbrev pub countRules : Stream → List Rule
+countRules s =
+    rule 11 (eqb (s .count) 0)
+    ∷ blockSizeRules (s .blockSize) (s .hashsumLength)
+    ++ rule 11 (leb (dataLength (s .blockSize) (s .hashsumLength)) (s .padding))
     ∷ []
 
--- 5 to 11, of an approved header of `size` bytes
+-- 5 to 11, of an approved header of so many bytes, where a signature of this length is expected
 abbrev pub fieldRules : Header → ℕ → ℕ → List Rule
-fieldRules d size expected =
+fieldRules d approvedLength signature =
     rule 5 (not (eqb (d .magic) headerMagic))
-    ∷ idRules (d .ids)
-    ++ rule 7 (not (eqb (d .hashsumLength) (sumLength (d .ids))))
-    ∷ rule 8 (not (eqb (d .headerSize) (headerSizeFor (d .hashsumLength))))
-    ∷ rule 8 (not (eqb (d .headerSize) size))
+    ∷ idRules (d .stream .ids)
+    ++ rule 7 (not (eqb (d .stream .hashsumLength) (sumLength (d .stream .ids))))
+    ∷ rule 8 (not (eqb (d .headerSize) (headerSizeFor (d .stream .hashsumLength))))
+    ∷ rule 8 (not (eqb (d .headerSize) approvedLength))
     ∷ rule 9 (not (eqb (d .scheme) 1))
-    ∷ rule 10 (not (eqb (d .signature) expected))
-    ∷ countRules d
-
--- where the first block begins: the image is header, signature field, blocks
-abbrev pub blocksStart : List ℕ → ℕ
-blocksStart approved = length approved + headerOf approved .signature
+    ∷ rule 10 (not (eqb (d .signature) signature))
+    ∷ countRules (d .stream)
 
 -- 4 to 12, in this order: what an image gets by its approved header
 abbrev pub imageRules : List ℕ → List ℕ → ℕ → List Rule
-imageRules image approved expected =
+imageRules image approved signature =
     rule 4 (ltb (length approved) 36)
     ∷ rule 4 (not (same (take (length approved) image) approved))
-    ∷ fieldRules (headerOf approved) (length approved) expected
-    ++ rule 12 (not (eqb (length image) (blocksStart approved + headerOf approved .count * headerOf approved .blockSize)))
+    ∷ fieldRules (headerOf approved) (length approved) signature
+    ++ rule 12 (not (eqb (length image) (imageLength (headerOf approved))))
     ∷ []
 
 -- 1, then 4 to 12: what an image gets before any block is looked at, where neither map nor table is asked for
 abbrev pub streamRules : List ℕ → List ℕ → ℕ → List Rule
-streamRules image approved expected =
-    signatureRules expected ++ sizeRules (length image) ++ imageRules image approved expected
+streamRules image approved signature =
+    signatureRules signature ++ sizeRules (length image) ++ imageRules image approved signature

@@ -1,49 +1,44 @@
 -- Open: what it answers and leaves in its output; and the signature field, which is handed to the chip.
 use mathlib.Core.Bool.{not, cond}
 use mathlib.Core.List.{List, [], _∷_, _++_}
-use Prim.Native.Nat.{ℕ, suc}
+use Prim.Native.Nat.{ℕ}
 use lib.Dec.{eqb}
 use lib.ListN.{length}
 use Rattle.octets.specs.Parts.{part, put}
-use Rattle.answers.specs.Answers.{Outcome, answered, refused}
+use Rattle.answers.specs.Answers.{Outcome, answered, answerAfter, writtenAfter, told}
 use Rattle.answers.specs.Rules.{Rule, rule, firstBroken}
 use Rattle.answers.specs.declared.Answer.{Answer}
-use Rattle.chain.specs.Blocks.{blockOf, blockCode, proved, fileUpTo}
+use Rattle.chain.specs.Blocks.{blockOf, provedBlocks, blocksStop, fileUpTo}
 use Rattle.chain.specs.Header.{Header, headerOf, fileLength, streamRules}
 
--- open gives 29 after 12
+-- open gives 29 after 12, where the output has so many bytes
 abbrev pub openRules : List ℕ → List ℕ → ℕ → ℕ → List Rule
-openRules image approved expected output =
-    streamRules image approved expected ++ rule 29 (not (eqb output (fileLength (headerOf approved)))) ∷ []
+openRules image approved signature output =
+    streamRules image approved signature ++ rule 29 (not (eqb output (fileLength (headerOf approved .stream)))) ∷ []
+
+-- the file as far as the blocks are proved
+abbrev pub provedFile : Header → (ℕ → List ℕ) → List ℕ
+provedFile d block = fileUpTo (d .stream) block (provedBlocks d block)
 
 -- all blocks proved: 0; else the first bad block's code at its place. No commands, no entry; the file bytes copied
-abbrev pub openAnswer : Header → (ℕ → List ℕ) → ℕ → Answer
-openAnswer d block m =
-    record {
-      code = cond (eqb m (d .count)) 0 (blockCode d block m);
-      place = cond (eqb m (d .count)) 0 (suc m);
-      commands = 0;
-      stored = length (fileUpTo d block m);
-      entry = 0;
-    }
+abbrev pub openAnswer : Header → (ℕ → List ℕ) → Answer
+openAnswer d block = told (blocksStop d block (provedBlocks d block)) 0 (length (provedFile d block)) 0
 
--- what open returns, and leaves in the answer record `held` and in its output: the proved first part of the file
+-- what open returns, and leaves in the answer record, which held `old`, and in its output: the proved first part of the file
 unfoldable pub opened : List ℕ → List ℕ → ℕ → List ℕ → List ℕ → Outcome
-opened image approved expected output held =
-    let code = firstBroken (openRules image approved expected (length output)) in
+opened image approved signature output old =
+    let early = firstBroken (openRules image approved signature (length output)) in
     let d = headerOf approved in
-    let block = blockOf image approved in
-    let m = proved d block (d .count) in
-    cond (eqb code 0) (answered held (openAnswer d block m) output (put output 0 (fileUpTo d block m)))
-    (answered held (refused code) output output)
+    answered old (answerAfter early (openAnswer d (blockOf image d))) output
+    (put output 0 (writtenAfter early (provedFile d (blockOf image d))))
 
 -- the image's bytes between header and first block; where open would give 1 or 4 to 12 the part is empty
 abbrev pub signatureField : List ℕ → List ℕ → ℕ → List ℕ
-signatureField image approved expected =
-    cond (eqb (firstBroken (streamRules image approved expected)) 0)
+signatureField image approved signature =
+    cond (eqb (firstBroken (streamRules image approved signature)) 0)
     (part image (length approved) (headerOf approved .signature)) []
 
 -- where it begins in the image; 0 where it is empty
 abbrev pub fieldStart : List ℕ → List ℕ → ℕ → ℕ
-fieldStart image approved expected =
-    cond (eqb (firstBroken (streamRules image approved expected)) 0) (length approved) 0
+fieldStart image approved signature =
+    cond (eqb (firstBroken (streamRules image approved signature)) 0) (length approved) 0

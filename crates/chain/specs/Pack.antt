@@ -7,7 +7,7 @@ use lib.ListN.{length, replicate}
 use Rattle.octets.specs.Parts.{part}
 use Rattle.answers.specs.Rules.{Rule, rule, firstBroken, signatureRules, sizeRules}
 use Rattle.chain.specs.Hashsum.{hashsum, sumLength, idRules}
-use Rattle.chain.specs.Header.{Header, headerMagic, headerSizeFor, headerBytes, blockSizeRules}
+use Rattle.chain.specs.Header.{Header, Stream, headerMagic, headerSizeFor, headerBytes, dataLength, imageLength, blockSizeRules}
 
 -- what is packed, and how: the file, the four hash IDs, block size and signature length
 pub record Order : Type 0 where
@@ -18,7 +18,7 @@ pub record Order : Type 0 where
 
 -- block data length
 abbrev pub room : Order → ℕ
-room p = p .blockSize - sumLength (p .ids)
+room p = dataLength (p .blockSize) (sumLength (p .ids))
 
 -- as few blocks as hold the file
 abbrev pub blocks : Order → ℕ
@@ -27,21 +27,6 @@ blocks p = (length (p .file) + room p - 1) / room p
 -- what is left of their data
 abbrev pub padding : Order → ℕ
 padding p = blocks p * room p - length (p .file)
-
--- header, signature field, blocks
-abbrev pub imageLength : Order → ℕ
-imageLength p = headerSizeFor (sumLength (p .ids)) + p .signature + blocks p * p .blockSize
-
--- pack checks 6, then block size (11), 28, then 1 (signature length, image over 2^30), then 29
-abbrev pub packRules : Order → ℕ → List Rule
-packRules p output =
-    idRules (p .ids)
-    ++ blockSizeRules (p .blockSize) (sumLength (p .ids))
-    ++ rule 28 (eqb (length (p .file)) 0)
-    ∷ signatureRules (p .signature)
-    ++ sizeRules (imageLength p)
-    ++ rule 29 (not (eqb output (imageLength p)))
-    ∷ []
 
 -- the data of block k, from 0: the padding's zeros, then the file, cut into parts
 abbrev pub chunk : Order → ℕ → List ℕ
@@ -62,16 +47,29 @@ abbrev pub packedHeader : Order → Header
 packedHeader p =
     record {
       magic = headerMagic;
-      count = blocks p;
-      blockSize = p .blockSize;
+      stream = record {
+        count = blocks p;
+        blockSize = p .blockSize;
+        hashsumLength = sumLength (p .ids);
+        ids = p .ids;
+        padding = padding p;
+      };
       signature = p .signature;
       headerSize = headerSizeFor (sumLength (p .ids));
-      hashsumLength = sumLength (p .ids);
-      ids = p .ids;
       scheme = 1;
-      padding = padding p;
       root = link p (blocks p) 0;
     }
+
+-- pack checks 6, then block size (11), 28, then 1 (signature length, image over 2^30), then 29
+abbrev pub packRules : Order → ℕ → List Rule
+packRules p output =
+    idRules (p .ids)
+    ++ blockSizeRules (p .blockSize) (sumLength (p .ids))
+    ++ rule 28 (eqb (length (p .file)) 0)
+    ∷ signatureRules (p .signature)
+    ++ sizeRules (imageLength (packedHeader p))
+    ++ rule 29 (not (eqb output (imageLength (packedHeader p))))
+    ∷ []
 
 -- header, a signature field of zeros, blocks
 unfoldable pub image : Order → List ℕ

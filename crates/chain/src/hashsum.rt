@@ -4,42 +4,18 @@ ghost use Prim.Native.Nat.{_≤_};
 ghost use lib.ListN.{length};
 ghost use Rattle.octets.specs.Parts.{part, same};
 ghost use Rattle.answers.specs.Rules.{firstBroken};
-ghost use Rattle.chain.specs.Code.{joinedOf};
 ghost use Rattle.chain.specs.Hashsum as spec;
 use answers::codes;
 use octets::parts;
-
-// The digests of up to four hashes one behind the other, and zeros behind them.
-pub struct Joined {
-    pub bytes: [u8; 256],
-    pub length: usize,
-}
-
-// The hashsum of a message.
-pub fn hashsum(ids: [u64; 4], message: &[u8]) -> Joined
-    ensures { λ r. ⌜ r ≡ joinedOf ids (now (message .entry)) ⌝ }
-{
-    let mut bytes = [0u8; 256];
-    let mut at = 0usize;
-    for i in 0usize..4 {
-        let d = hashes::digest(ids[i], message);
-        let digest = d.bytes;
-        let n = d.length;
-        parts::copy(&mut bytes, at, &digest[..n]);
-        at = at + n;
-    }
-    Joined { bytes, length: at }
-}
 
 // Whether the hashsum of a message is the expected one: compared digest by digest, so that none is kept.
 pub fn hashsum_is(ids: [u64; 4], message: &[u8], expected: &[u8]) -> bool
     ensures { λ r. ⌜ r ≡ same (spec.hashsum ids (now (message .entry))) (now (expected .entry)) ⌝ }
 {
+    let mut digest = [0u8; 64];
     let mut at = 0usize;
     for position in 0usize..4 {
-        let d = hashes::digest(ids[position], message);
-        let digest = d.bytes;
-        let n = d.length;
+        let n = hashes::digest(ids[position], message, &mut digest);
         if !stands_at(expected, at, &digest[..n]) {
             return false;
         }
@@ -48,7 +24,7 @@ pub fn hashsum_is(ids: [u64; 4], message: &[u8], expected: &[u8]) -> bool
     at == expected.len()
 }
 
-// Whether the bytes of `s` from offset `at` on begin with `first`.
+// Whether the bytes of `s` from offset `at` on start with `first`.
 fn stands_at(s: &[u8], at: usize, first: &[u8]) -> bool
     requires { ⌜ at ≤ length (now s) ⌝ }
     ensures { λ r. ⌜ r ≡ same (now (first .entry)) (part (now (s .entry)) at (length (now (first .entry)))) ⌝ }

@@ -2,13 +2,17 @@ ghost use mathlib.Core.Path.{_≡_};
 ghost use denote.Ref.{now, ptr};
 ghost use Prim.Native.Nat.{_+_};
 ghost use lib.ListN.{length};
+ghost use Rattle.octets.specs.Parts.{put};
 ghost use Rattle.answers.specs.Answers.{Outcome};
 ghost use Rattle.answers.specs.Rules.{firstBroken};
-ghost use Rattle.chain.specs.Code.{Passes, BlocksOpened};
-ghost use Rattle.chain.specs.Header.{headerOf, fileLength};
+ghost use Rattle.chain.specs.Blocks.{blockOf, fileUpTo};
+ghost use Rattle.chain.specs.Code.{streamOf};
+ghost use Rattle.chain.specs.Contracts.{blockAt, Copyable, Answered};
+ghost use Rattle.chain.specs.Header.{headerOf};
 ghost use Rattle.chain.specs.Open as spec;
 use crate::blocks;
 use crate::header;
+use crate::header::Stream;
 use answers::Answer;
 use answers::codes;
 use octets::parts;
@@ -24,77 +28,64 @@ pub fn open(
     ensures { λ r. ⌜ spec.opened (now (image .entry)) (now (header .entry)) «signature_length» (now (output .entry)) (now (answer .entry))
         ≡ record { code = r; answer = now (answer .exit); lent = now (output .exit) } ⌝ }
 {
-    if answer.len() != 40 {
+    if answer.len() != answers::RECORD_LENGTH {
         return codes::ARGUMENT;
     }
-    let code = open_code(image, header, signature_length, output.len() as u64);
-    if code != codes::DONE {
-        return answers::write_answer(answer, answers::refused(code));
-    }
-    let a = open_blocks(image, header, output);
+    let a = open_answer(image, header, signature_length, output);
     answers::write_answer(answer, a)
 }
 
 // The signature field: the bytes between header and first block, as a part of the image; none where open would give 1 or 4 to 12.
-pub fn signature_field<'a>(image: &'a [u8], header: &[u8], expected: u64) -> &'a [u8]
-    ensures { λ r. ⌜ now r ≡ spec.signatureField (now (image .entry)) (now (header .entry)) expected ⌝ }
-    ensures { λ r. ⌜ ptr r ≡ (ptr (image .entry) .0, ptr (image .entry) .1 + spec.fieldStart (now (image .entry)) (now (header .entry)) expected) ⌝ }
+pub fn signature_field<'a>(image: &'a [u8], header: &[u8], signature: u64) -> &'a [u8]
+    ensures { λ r. ⌜ now r ≡ spec.signatureField (now (image .entry)) (now (header .entry)) signature ⌝ }
+    ensures { λ r. ⌜ ptr r
+        ≡ (ptr (image .entry) .0, ptr (image .entry) .1 + spec.fieldStart (now (image .entry)) (now (header .entry)) signature) ⌝ }
 {
-    let code = header::stream_code(image, header, expected);
-    if code != codes::DONE {
+    let j = header::stream_judged(image, header, signature);
+    if j.code != codes::DONE {
         return &image[0..0];
     }
-    let h = header::header_of(header);
     let start = header.len();
-    let end = start + h.signature as usize;
+    let end = start + signature as usize;
     &image[start..end]
 }
 
-// What an image gets before any block is looked at, for an output of this length: 0, or the refusal.
-fn open_code(image: &[u8], approved: &[u8], expected: u64, output: u64) -> u64
-    ensures { λ r. ⌜ r ≡ firstBroken (spec.openRules (now (image .entry)) (now (approved .entry)) expected output) ⌝ }
+// Open's answer: the refusal by 1, 4 to 12 or 29, or how far the blocks are proved, with the file's bytes in them copied out.
+fn open_answer(image: &[u8], approved: &[u8], signature: u64, output: &mut [u8]) -> Answer
+    ensures { λ r. ⌜ Answered
+        (firstBroken (spec.openRules (now (image .entry)) (now (approved .entry)) signature (length (now (output .entry)))))
+        (headerOf (now (approved .entry))) (blockOf (now (image .entry)) (headerOf (now (approved .entry))))
+        (now (output .entry)) r (now (output .exit)) ⌝ }
 {
-    let code = header::stream_code(image, approved, expected);
-    if code != codes::DONE {
-        return code;
+    let j = header::stream_judged(image, approved, signature);
+    if j.code != codes::DONE {
+        return answers::refused(j.code);
     }
-    let h = header::header_of(approved);
-    if output != header::file_length(h) {
-        return codes::OUTPUT_LENGTH;
+    let s = j.stream;
+    if output.len() as u64 != header::file_length(s) {
+        return answers::refused(codes::OUTPUT_LENGTH);
     }
-    codes::DONE
+    let first = approved.len() + signature as usize;
+    let p = blocks::proved(image, approved, first, s);
+    let stored = copy_file(image, first, s, p.count, output);
+    answers::told(p.stop, 0, stored as u64, 0)
 }
 
-// The blocks of an image that passed: the file's bytes of each are copied once it is proved.
-fn open_blocks(image: &[u8], approved: &[u8], output: &mut [u8]) -> Answer
-    requires { ⌜ Passes (now image) (now approved) × (length (now output) ≡ fileLength (headerOf (now approved))) ⌝ }
-    ensures { λ r. ⌜ BlocksOpened (now (image .entry)) (now (approved .entry)) (now (output .entry)) r (now (output .exit)) ⌝ }
+// Copies the file's bytes in the first blocks out; how many they are.
+fn copy_file(image: &[u8], first: usize, s: Stream, blocks: u64, output: &mut [u8]) -> usize
+    requires { ⌜ Copyable (now image) first (streamOf s) blocks (length (now output)) ⌝ }
+    ensures { λ r. ⌜ now (output .exit)
+        ≡ put (now (output .entry)) 0 (fileUpTo (streamOf s) (blockAt (now (image .entry)) first (s .«block_size»)) blocks) ⌝ }
+    ensures { λ r. ⌜ r ≡ length (fileUpTo (streamOf s) (blockAt (now (image .entry)) first (s .«block_size»)) blocks) ⌝ }
 {
-    let h = header::header_of(approved);
-    let count = h.count as u64;
     let mut k = 0u64;
     let mut at = 0usize;
-    while k < count {
-        let code = blocks::block_code(image, approved, k);
-        if code != codes::DONE {
-            return Answer {
-                code,
-                place: k + 1,
-                commands: 0,
-                stored: at as u64,
-                entry: 0,
-            };
-        }
-        let bytes = blocks::file_bytes(image, approved, k);
+    while k < blocks {
+        let block = blocks::block(image, first, s.block_size, k);
+        let bytes = blocks::file_bytes(s, k, block);
         parts::copy(output, at, bytes);
         at = at + bytes.len();
         k = k + 1;
     }
-    Answer {
-        code: codes::DONE,
-        place: 0,
-        commands: 0,
-        stored: at as u64,
-        entry: 0,
-    }
+    at
 }

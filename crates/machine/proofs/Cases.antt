@@ -4,16 +4,17 @@ use mathlib.Core.List.{List, [], _∷_, _++_, map}
 use Prim.Native.Nat.{ℕ, _^_}
 use lib.ListN.{length, replicate}
 use Rattle.octets.specs.Numbers.{little, littleBytes}
+use Rattle.answers.specs.Answers.{recordLength}
 use Rattle.board.specs.Cpuid.{ascending, lookup}
 use Rattle.board.specs.Map.{ordered, total, uncovered}
 use Rattle.board.specs.Records.{records}
-use Rattle.machine.specs.Bare.{runBare}
+use Rattle.machine.specs.Bare.{Bare, runBare}
 use Rattle.machine.specs.Commands.{hasZero}
 use Rattle.machine.specs.Machine.{
-  begins,
+  commandBegins,
   finished,
   magicRead,
-  passed,
+  headerSays,
   headerRead,
   writeRead,
   fillRead,
@@ -59,40 +60,50 @@ leaf = littleBytes 4 1 ++ littleBytes 4 0 ++ littleBytes 4 0xF0 ++ replicate 12 
 -- ---- the codes
 
 pub record Case : Type 0 where
-  pub file : List ℕ
-  pub map : List ℕ
-  pub table : List ℕ
-  pub mode : ℕ
+  pub given : Bare
   pub memory : ℕ
 
 -- what a bare run returns, where so many bytes of memory are lent
 abbrev pub returned : Case → ℕ
-returned c = runBare (c .file) (c .map) (c .table) (c .mode) (replicate (c .memory) 0) (replicate 40 0) .code
+returned c = runBare (c .given) (replicate (c .memory) 0) (replicate recordLength 0) .code
 
-abbrev onSmall : List ℕ → Case
-onSmall file = record { file = file; map = small; table = leaf; mode = 64; memory = 16 }
+-- with one leaf and one small region
+abbrev onSmall : List ℕ → ℕ → ℕ → Case
+onSmall file mode memory =
+    record { given = record { file = file; map = small; table = leaf; mode = mode }; memory = memory }
+
+abbrev withTable : List ℕ → List ℕ → Case
+withTable table file =
+    record { given = record { file = file; map = small; table = table; mode = 32 }; memory = 16 }
+
+abbrev with64 : List ℕ → Case
+with64 file = onSmall file 64 16
 
 abbrev pub cases : List Case
 cases =
-    onSmall (magic ++ write 0x1002 (1 ∷ 2 ∷ 3 ∷ []) ++ fill 0x100F 1 ++ command 65535 (9 ∷ []) ++ check 1 0x30 0x30 0 (replicate 64 0) ++ entry 0x4000)
-    ∷ record { file = magic; map = small; table = leaf; mode = 33; memory = 16 }
-    ∷ record { file = magic; map = small; table = leaf; mode = 32; memory = 17 }
-    ∷ record { file = magic; map = small; table = 0 ∷ leaf; mode = 32; memory = 16 }
-    ∷ onSmall (replicate 8 0)
-    ∷ onSmall (magic ++ entry 0x1000 ++ (0 ∷ []))
-    ∷ onSmall (magic ++ command 4 [])
-    ∷ onSmall (magic ++ command 2 (littleBytes 7 0))
-    ∷ onSmall (magic ++ entry (2 ^ 52))
-    ∷ onSmall (magic ++ write 0x100F (1 ∷ 2 ∷ []))
-    ∷ onSmall (magic ++ check 1 0x30 0x30 0 (replicate 64 1))
-    ∷ record { file = magic ++ check 1 0x30 0x30 0 (replicate 64 0); map = small; table = []; mode = 32; memory = 16 }
-    ∷ onSmall (magic ++ check 1 0x30 0x30 4 (replicate 64 0))
-    ∷ onSmall (magic ++ check 2 0x30 0x30 0 (replicate 64 0))
-    ∷ onSmall (magic ++ check 1 0xF0 0x30 0 (replicate 64 0))
-    ∷ onSmall magic
+    with64 (
+    magic ++ write 0x1002 (1 ∷ 2 ∷ 3 ∷ []) ++ fill 0x100F 1 ++ command 65535 (9 ∷ []) ++ check 1 0x30 0x30 0 (replicate 64 0)
+    ++ entry 0x4000
+    )
+    ∷ onSmall magic 33 16
+    ∷ onSmall magic 32 17
+    ∷ withTable (0 ∷ leaf) magic
+    ∷ with64 (replicate 8 0)
+    ∷ with64 (magic ++ entry 0x1000 ++ (0 ∷ []))
+    ∷ with64 (magic ++ command 4 [])
+    ∷ with64 (magic ++ command 2 (littleBytes 7 0))
+    ∷ with64 (magic ++ entry (2 ^ 52))
+    ∷ with64 (magic ++ write 0x100F (1 ∷ 2 ∷ []))
+    ∷ with64 (magic ++ check 1 0x30 0x30 0 (replicate 64 1))
+    ∷ withTable [] (magic ++ check 1 0x30 0x30 0 (replicate 64 0))
+    ∷ with64 (magic ++ check 1 0x30 0x30 4 (replicate 64 0))
+    ∷ with64 (magic ++ check 2 0x30 0x30 0 (replicate 64 0))
+    ∷ with64 (magic ++ check 1 0xF0 0x30 0 (replicate 64 0))
+    ∷ with64 magic
     ∷ []
 
 -- For each code of a bare run some input gives it.
 pub each-code-given : map returned cases ≡ 0 ∷ 1 ∷ 2 ∷ 3 ∷ 16 ∷ 17 ∷ 18 ∷ 19 ∷ 20 ∷ 21 ∷ 22 ∷ 23 ∷ 24 ∷ 25 ∷ 26 ∷ 27 ∷ []
-unfolding little littleBytes ascending lookup ordered total uncovered records runBare hasZero begins finished magicRead passed headerRead writeRead fillRead entryRead checkRead parametersRead react run
+unfolding little littleBytes ascending lookup ordered total uncovered records runBare hasZero
+    commandBegins finished magicRead headerSays headerRead writeRead fillRead entryRead checkRead parametersRead react run
 each-code-given = refl

@@ -1,7 +1,7 @@
 -- The commands that a run has done, and what the tally says of them.
 use mathlib.Core.Bool.{Bool, true, false, true≢false, false≢true, cond}
 use mathlib.Core.Path.{_≡_, refl, sym, ap, subst, _∙_}
-use mathlib.Core.List.{List, [], _∷_, _++_, List·Memᴰ, List·Memᴰ·not-nil, List·Memᴰ·cases-cons}
+use mathlib.Core.List.{List, [], _∷_, _++_, List·Memᴰ, List·Memᴰ·head, List·Memᴰ·tail, List·Memᴰ·not-nil, List·Memᴰ·cases-cons}
 use mathlib.Core.Logic.{_⊎_, inl, inr}
 use Prim.Native.Nat.{ℕ, suc, pred, _+_, _-_}
 use native.Mathlib.Nat.{add-zero}
@@ -9,103 +9,107 @@ use native.Mathlib.Omega.{arith}
 use borrow.Author.Tests.{lt-ltb, le-ltb}
 use lib.Dec.{eqb, ltb}
 use lib.ListN.{length, length-append}
-use Rattle.octets.specs.Numbers.{little}
 use Rattle.answers.specs.Rules.{firstBroken}
+use Rattle.answers.proofs.ChoiceLaws.{cond-cases}
+use Rattle.board.specs.Reach.{limit}
 use Rattle.machine.specs.Commands.{
-  commandOf,
+  named,
+  commandId,
   dataLength,
   address,
   fillCount,
   judgedBytes,
-  headerRules,
+  dataRules,
+  lengthRules,
   rangeRules,
   entryRules,
   checkRules,
 }
 use Rattle.machine.specs.Machine.{
-  Job,
+  Setting,
   State,
-  Turn,
+  Effect,
   react,
   step,
   run,
-  still,
+  noStores,
   kept,
   used,
   stopped,
   tallied,
-  turnedTo,
-  awaiting,
+  inPhase,
   withStored,
   withEntry,
   withCommand,
-  begins,
+  commandBegins,
   finished,
   judged,
   magicRead,
-  passed,
+  headerSays,
   headerRead,
   writeRead,
   fillRead,
   entryRead,
   checkRead,
   parametersRead,
-  gathered,
+  gather,
   unlessLast,
 }
 use Rattle.machine.specs.declared.Command.{Command}
-use Rattle.machine.specs.declared.Command.the-variants.{Write, Fill, Entry, Check, Skip, Unknown}
-use Rattle.machine.specs.declared.Tally.{Tally}
+use Rattle.machine.specs.declared.Command.the-variants.{Write, Fill, Entry, Check}
+use Rattle.machine.specs.declared.Named.{Named}
+use Rattle.machine.specs.declared.Named.the-variants.{Known, Skipped, Unknown}
 use Rattle.machine.specs.declared.Phase.{Phase}
 use Rattle.machine.specs.declared.Phase.the-variants.{Magic, Header, Parameters, Storing, Skipping, Stopped}
+use Rattle.machine.specs.declared.Tally.{Tally}
 use Rattle.machine.proofs.ReachedLaws.{step-stands}
-use Rattle.machine.proofs.Standing.{Stands, Meant, cond-cases}
+use Rattle.machine.proofs.Standing.{Stands, Meant, begins-cases, magic-cases, header-kept}
 
 -- ---- commands done
 
 -- the bytes that a command has been judged by, where b is used
 abbrev pub seen : Phase → State → ℕ → List ℕ
 seen Magic s b = []
-seen Header s b = s .held ++ (b ∷ [])
-seen Parameters s b = s .held ++ (b ∷ [])
-seen (Storing a left) s b = s .held
-seen (Skipping left) s b = s .held
-seen (Stopped code place) s b = []
+seen Header s b = s .gathered ++ (b ∷ [])
+seen (Parameters k) s b = s .gathered ++ (b ∷ [])
+seen (Storing a left) s b = s .gathered
+seen (Skipping left) s b = s .gathered
+seen (Stopped stop) s b = []
 
 -- the command that b is the last byte of, if it is one's
-abbrev pub doneBy : Job → State → ℕ → List (List ℕ)
-doneBy job s b =
-    cond (ltb (s .tally .commands) (step job s b .state .tally .commands)) (seen (s .phase) s b ∷ []) []
+abbrev pub doneBy : Setting → State → ℕ → List (List ℕ)
+doneBy on s b =
+    cond (ltb (s .tally .commands) (step on s b .state .tally .commands)) (seen (s .phase) s b ∷ []) []
 
 -- the commands that the bytes finish, in order
-unfoldable pub commandsDone : Job → State → List ℕ → List (List ℕ)
-commandsDone job s [] = []
-commandsDone job s (b ∷ bs) = doneBy job s b ++ commandsDone job (step job s b .state) bs
+unfoldable pub commandsDone : Setting → State → List ℕ → List (List ℕ)
+commandsDone on s [] = []
+commandsDone on s (b ∷ bs) = doneBy on s b ++ commandsDone on (step on s b .state) bs
 
-abbrev pub isEntry : Command → Bool
-isEntry Write = false
-isEntry Fill = false
-isEntry Entry = true
-isEntry Check = false
-isEntry Skip = false
+abbrev pub isEntry : Named → Bool
+isEntry (Known Write) = false
+isEntry (Known Fill) = false
+isEntry (Known Entry) = true
+isEntry (Known Check) = false
+isEntry Skipped = false
 isEntry Unknown = false
 
 -- the address of the last entry command of a list, a where there is none; whether there is one, f where there is none
 abbrev pub entryOf : List (List ℕ) → ℕ → ℕ
 entryOf [] a = a
-entryOf (c ∷ cs) a = entryOf cs (cond (isEntry (commandOf c)) (address c) a)
+entryOf (c ∷ cs) a = entryOf cs (cond (isEntry (named (commandId c))) (address c) a)
 
 abbrev pub enteredBy : List (List ℕ) → Bool → Bool
 enteredBy [] f = f
-enteredBy (c ∷ cs) f = enteredBy cs (cond (isEntry (commandOf c)) true f)
+enteredBy (c ∷ cs) f = enteredBy cs (cond (isEntry (named (commandId c))) true f)
 
--- ---- what a turn tells of the command c
+-- ---- what a byte tells of the command c
 
 -- what the tally becomes where c is done: as it was, but for the count and the last entry
 pub record Told (c : List ℕ) (t u : Tally) : Type 0 where
   pub count : u .commands ≡ suc (t .commands)
-  pub entry : u .entry ≡ cond (isEntry (commandOf c)) (address c) (t .entry)
-  pub entered : u .entered ≡ cond (isEntry (commandOf c)) true (t .entered)
+  pub entry : u .entry ≡ cond (isEntry (named (commandId c))) (address c) (t .entry)
+  pub entered : u .entered ≡ cond (isEntry (named (commandId c))) true (t .entered)
 
 pub record Untold (t u : Tally) : Type 0 where
   pub count : u .commands ≡ t .commands
@@ -118,104 +122,102 @@ Tells c t u = Untold t u ⊎ Told c t u
 untold : (c : List ℕ) (t : Tally) → Tells c t t
 untold c t = inl (record { count = refl; entry = refl; entered = refl })
 
-begins-tally : (job : Job) (s : State) → begins job s .tally ≡ s .tally
-unfolding begins
-begins-tally job s =
-    cond-cases P (eqb (s .next) (job .fileLength)) (cond (s .tally .entered) (stopped 0 0 s) (stopped 27 (job .fileLength) s)) (cond (ltb (job .fileLength - s .next) 16) (stopped 17 (s .next) s) (awaiting s))
-    (λ e. cond-cases P (s .tally .entered) (stopped 0 0 s) (stopped 27 (job .fileLength) s) (λ f. refl) (λ f. refl))
-    (λ e. cond-cases P (ltb (job .fileLength - s .next) 16) (stopped 17 (s .next) s) (awaiting s) (λ f. refl) (λ f. refl))
-  where
-    P : State → Type 0
-    P t = t .tally ≡ s .tally
+begins-tally : (fileLength : ℕ) (s : State) → commandBegins fileLength s .tally ≡ s .tally
+begins-tally fileLength s =
+    begins-cases (λ (t : State). t .tally ≡ s .tally) fileLength s (λ e f. refl) (λ e f. refl) (λ e. refl) (λ l. refl)
 
--- the command held is done; f says whether it is an entry
-module _ (job : Job) (u : State) (before : Tally) (commands : u .tally .commands ≡ before .commands) where
-  finished-tells : (f : Bool) → isEntry (commandOf (u .held)) ≡ f → u .tally .entry ≡ cond f (address (u .held)) (before .entry)
-      → u .tally .entered ≡ cond f true (before .entered) → Tells (u .held) before (finished job u .tally)
+-- the command gathered is done; f says whether it is an entry
+module _ (fileLength : ℕ) (u : State) (before : Tally) (commands : u .tally .commands ≡ before .commands) where
+  finished-tells : (f : Bool) → isEntry (named (commandId (u .gathered))) ≡ f
+      → u .tally .entry ≡ cond f (address (u .gathered)) (before .entry) → u .tally .entered ≡ cond f true (before .entered)
+      → Tells (u .gathered) before (finished fileLength u .tally)
   unfolding finished
   finished-tells f q entry entered =
-      inr (subst (Told (u .held) before) (sym (begins-tally job (tallied (withCommand (u .tally)) u)))
+      inr (subst (Told (u .gathered) before) (sym (begins-tally fileLength (tallied (withCommand (u .tally)) u)))
       (record {
         count = ap suc commands;
-        entry = entry ∙ ap (λ (g : Bool). cond g (address (u .held)) (before .entry)) (sym q);
+        entry = entry ∙ ap (λ (g : Bool). cond g (address (u .gathered)) (before .entry)) (sym q);
         entered = entered ∙ ap (λ (g : Bool). cond g true (before .entered)) (sym q);
       }))
 
-judged-tells : (c : List ℕ) (code : ℕ) (s : State) (t : Turn) → Tells c (s .tally) (t .state .tally) → Tells c (s .tally) (judged code s t .state .tally)
+judged-tells : (c : List ℕ) (code : ℕ) (s : State) (t : Effect) → Tells c (s .tally) (t .state .tally)
+    → Tells c (s .tally) (judged code s t .state .tally)
 judged-tells c code s t h =
-    cond-cases (λ (u : Turn). Tells c (s .tally) (u .state .tally)) (eqb code 0) t (still (stopped code (s .start) s)) (λ e. h)
+    cond-cases (λ (u : Effect). Tells c (s .tally) (u .state .tally)) (eqb code 0) t (noStores (stopped code (s .start) s)) (λ e. h)
     (λ e. untold c (s .tally))
 
-module _ (job : Job) (u : State) where
-  passed-tells : (k : Command) (n : ℕ) → commandOf (u .held) ≡ k → Tells (u .held) (u .tally) (passed job k n u .tally)
-  unfolding passed
-  passed-tells Write n q = untold (u .held) (u .tally)
-  passed-tells Fill n q = untold (u .held) (u .tally)
-  passed-tells Entry n q = untold (u .held) (u .tally)
-  passed-tells Check n q = untold (u .held) (u .tally)
-  passed-tells Skip n q =
-      cond-cases (λ (t : State). Tells (u .held) (u .tally) (t .tally)) (eqb n 0) (finished job u) (turnedTo (Skipping n) u)
-      (λ e. finished-tells job u (u .tally) refl false (ap isEntry q) refl refl) (λ e. untold (u .held) (u .tally))
-  passed-tells Unknown n q = untold (u .held) (u .tally)
+module _ (on : Setting) (u : State) where
+  abbrev tells : State → Type 0
+  tells t = Tells (u .gathered) (u .tally) (t .tally)
 
-  parameters-tells : (k : Command) → commandOf (u .held) ≡ k → Tells (u .held) (u .tally) (parametersRead job k u .state .tally)
+  says-tells : (x : Named) (n : ℕ) → named (commandId (u .gathered)) ≡ x → tells (headerSays x (on .job .length) n u .state)
+  unfolding headerSays
+  says-tells (Known k) n q =
+      judged-tells (u .gathered) (firstBroken (lengthRules k n (on .job .length - u .next))) u _ (untold (u .gathered) (u .tally))
+  says-tells Skipped n q =
+      judged-tells (u .gathered) (firstBroken (dataRules n (on .job .length - u .next))) u _
+      (cond-cases tells (eqb n 0) (finished (on .job .length) u) (inPhase (Skipping n) u)
+      (λ e. finished-tells (on .job .length) u (u .tally) refl false (ap isEntry q) refl refl) (λ e. untold (u .gathered) (u .tally)))
+  says-tells Unknown n q = untold (u .gathered) (u .tally)
+
+  parameters-tells : (k : Command) → named (commandId (u .gathered)) ≡ Known k → tells (parametersRead k on u .state)
   unfolding parametersRead writeRead fillRead entryRead checkRead
   parameters-tells Write q =
-      let n = dataLength (u .held) - 8 in
-      judged-tells (u .held) (firstBroken (rangeRules (job .unit) (address (u .held)) n)) u _
-      (cond-cases (λ (t : State). Tells (u .held) (u .tally) (t .tally)) (eqb n 0) (finished job u) (turnedTo (Storing (address (u .held)) n) u)
-      (λ e. finished-tells job u (u .tally) refl false (ap isEntry q) refl refl) (λ e. untold (u .held) (u .tally)))
+      let a = address (u .gathered) in
+      let n = dataLength (u .gathered) - 8 in
+      judged-tells (u .gathered) (firstBroken (rangeRules (on .map) (limit (on .job .mode)) a n)) u _
+      (cond-cases tells (eqb n 0) (finished (on .job .length) u) (inPhase (Storing a n) u)
+      (λ e. finished-tells (on .job .length) u (u .tally) refl false (ap isEntry q) refl refl) (λ e. untold (u .gathered) (u .tally)))
   parameters-tells Fill q =
-      judged-tells (u .held) (firstBroken (rangeRules (job .unit) (address (u .held)) (fillCount (u .held)))) u _
-      (finished-tells job (tallied (withStored (fillCount (u .held)) (u .tally)) u) (u .tally) refl false (ap isEntry q) refl refl)
+      let a = address (u .gathered) in
+      let n = fillCount (u .gathered) in
+      judged-tells (u .gathered) (firstBroken (rangeRules (on .map) (limit (on .job .mode)) a n)) u _
+      (finished-tells (on .job .length) (tallied (withStored n (u .tally)) u) (u .tally) refl false (ap isEntry q) refl refl)
   parameters-tells Entry q =
-      judged-tells (u .held) (firstBroken (entryRules (job .unit) (address (u .held)))) u _
-      (finished-tells job (tallied (withEntry (address (u .held)) (u .tally)) u) (u .tally) refl true (ap isEntry q) refl refl)
+      let a = address (u .gathered) in
+      judged-tells (u .gathered) (firstBroken (entryRules (limit (on .job .mode)) a)) u _
+      (finished-tells (on .job .length) (tallied (withEntry a (u .tally)) u) (u .tally) refl true (ap isEntry q) refl refl)
   parameters-tells Check q =
-      judged-tells (u .held) (firstBroken (checkRules (job .unit) (u .held))) u _
-      (finished-tells job u (u .tally) refl false (ap isEntry q) refl refl)
-  parameters-tells Skip q = untold (u .held) (u .tally)
-  parameters-tells Unknown q = untold (u .held) (u .tally)
+      judged-tells (u .gathered) (firstBroken (checkRules (on .table) (u .gathered))) u _
+      (finished-tells (on .job .length) u (u .tally) refl false (ap isEntry q) refl refl)
 
-magic-tally : (job : Job) (s : State) → magicRead job s .tally ≡ s .tally
-unfolding magicRead
-magic-tally job s =
-    cond-cases (λ (t : State). t .tally ≡ s .tally) (eqb (little (s .held)) 0x8adc5fa2448cb65e) (begins job s) (stopped 16 0 s)
-    (λ e. begins-tally job s) (λ e. refl)
+magic-tally : (fileLength : ℕ) (s : State) → magicRead fileLength s .state .tally ≡ s .tally
+magic-tally fileLength s =
+    magic-cases (λ (t : Effect). t .state .tally ≡ s .tally) fileLength s (λ e. begins-tally fileLength s) (λ e. refl)
 
-module _ (job : Job) (s : State) (b : ℕ) where
-  gathered-tells : (c : List ℕ) (wanted : ℕ) (t : Turn) → Tells c (s .tally) (t .state .tally) → Tells c (s .tally) (gathered wanted (kept b s) t .state .tally)
-  gathered-tells c wanted t h =
-      cond-cases (λ (u : Turn). Tells c (s .tally) (u .state .tally)) (ltb (length (s .held ++ (b ∷ []))) wanted) (still (kept b s)) t
-      (λ e. untold c (s .tally)) (λ e. h)
+module _ (on : Setting) (s : State) (b : ℕ) where
+  gather-tells : (c : List ℕ) (all : ℕ) (says : State → Effect) → Tells c (s .tally) (says (kept b s) .state .tally)
+      → Tells c (s .tally) (gather all says s b .state .tally)
+  gather-tells c all says h =
+      cond-cases (λ (u : Effect). Tells c (s .tally) (u .state .tally)) (ltb (length (s .gathered ++ (b ∷ []))) all) (noStores (kept b s))
+      (says (kept b s)) (λ e. untold c (s .tally)) (λ e. h)
 
   -- the last byte of the data finishes the command
   last-tells : (left : ℕ) (p : Phase) (u : State) → u .tally .commands ≡ s .tally .commands → u .tally .entry ≡ s .tally .entry
-      → u .tally .entered ≡ s .tally .entered → isEntry (commandOf (u .held)) ≡ false → Tells (u .held) (s .tally) (unlessLast job left p u .tally)
+      → u .tally .entered ≡ s .tally .entered → isEntry (named (commandId (u .gathered))) ≡ false
+      → Tells (u .gathered) (s .tally) (unlessLast (on .job .length) left p u .tally)
   last-tells left p u commands entry entered q =
-      cond-cases (λ (t : State). Tells (u .held) (s .tally) (t .tally)) (eqb left 1) (finished job u) (turnedTo p u)
-      (λ e. finished-tells job u (s .tally) commands false q entry entered)
+      cond-cases (λ (t : State). Tells (u .gathered) (s .tally) (t .tally)) (eqb left 1) (finished (on .job .length) u) (inPhase p u)
+      (λ e. finished-tells (on .job .length) u (s .tally) commands false q entry entered)
       (λ e. inl (record { count = commands; entry = entry; entered = entered }))
 
-  react-tells : (p : Phase) → Meant job p s → Tells (seen p s b) (s .tally) (react p job s b .state .tally)
+  react-tells : (p : Phase) → Meant on p s → Tells (seen p s b) (s .tally) (react p on s b .state .tally)
   unfolding react headerRead
   react-tells Magic m =
-      gathered-tells [] 8 (still (magicRead job (kept b s)))
-      (subst (Tells [] (s .tally)) (sym (magic-tally job (kept b s))) (untold [] (s .tally)))
+      gather-tells [] 8 (magicRead (on .job .length))
+      (subst (Tells [] (s .tally)) (sym (magic-tally (on .job .length) (kept b s))) (untold [] (s .tally)))
   react-tells Header m =
       let u = kept b s in
-      gathered-tells (u .held) 16 (headerRead job u)
-      (judged-tells (u .held) (firstBroken (headerRules (commandOf (u .held)) (dataLength (u .held)) (job .fileLength - u .next))) u
-      (still (passed job (commandOf (u .held)) (dataLength (u .held)) u))
-      (passed-tells job u (commandOf (u .held)) (dataLength (u .held)) refl))
-  react-tells Parameters m =
+      gather-tells (u .gathered) 16 (headerRead (on .job .length))
+      (says-tells on u (named (commandId (u .gathered))) (dataLength (u .gathered)) refl)
+  react-tells (Parameters k) m =
       let u = kept b s in
-      gathered-tells (u .held) (16 + judgedBytes (commandOf (u .held))) (parametersRead job (commandOf (u .held)) u)
-      (parameters-tells job u (commandOf (u .held)) refl)
+      gather-tells (u .gathered) (16 + judgedBytes k) (parametersRead k on)
+      (parameters-tells on u k (ap named (header-kept (s .gathered) (b ∷ []) (m .1) .0) ∙ m .5))
   react-tells (Storing a left) m =
-      last-tells left (Storing (suc a) (pred left)) (used (tallied (withStored 1 (s .tally)) s)) refl refl refl (ap isEntry (m .4))
+      last-tells left (Storing (suc a) (pred left)) (used (tallied (withStored 1 (s .tally)) s)) refl refl refl (ap isEntry (m .4 .is))
   react-tells (Skipping left) m = last-tells left (Skipping (pred left)) (used s) refl refl refl (ap isEntry (m .2))
-  react-tells (Stopped code place) m = untold [] (s .tally)
+  react-tells (Stopped stop) m = untold [] (s .tally)
 
 -- ---- what the tally says of the commands done
 
@@ -226,11 +228,11 @@ pub record Account (cs : List (List ℕ)) (t u : Tally) : Type 0 where
 
 entryOf-append : (cs ds : List (List ℕ)) (a : ℕ) → entryOf (cs ++ ds) a ≡ entryOf ds (entryOf cs a)
 entryOf-append [] ds a = refl
-entryOf-append (c ∷ cs) ds a = entryOf-append cs ds (cond (isEntry (commandOf c)) (address c) a)
+entryOf-append (c ∷ cs) ds a = entryOf-append cs ds (cond (isEntry (named (commandId c))) (address c) a)
 
 enteredBy-append : (cs ds : List (List ℕ)) (f : Bool) → enteredBy (cs ++ ds) f ≡ enteredBy ds (enteredBy cs f)
 enteredBy-append [] ds f = refl
-enteredBy-append (c ∷ cs) ds f = enteredBy-append cs ds (cond (isEntry (commandOf c)) true f)
+enteredBy-append (c ∷ cs) ds f = enteredBy-append cs ds (cond (isEntry (named (commandId c))) true f)
 
 account-append : (cs ds : List (List ℕ)) (t u v : Tally) → Account cs t u → Account ds u v → Account (cs ++ ds) t v
 account-append cs ds t u v g h =
@@ -248,71 +250,87 @@ account-one c t u (inr h) =
     subst (λ (f : Bool). Account (cond f (c ∷ []) []) t u) (sym (lt-ltb (t .commands) (u .commands) (omega (arith, h .count))))
     (record { count = omega (arith, h .count); entry = h .entry; entered = h .entered })
 
-pub run-account : (job : Job) (s : State) (xs : List ℕ) → Stands job s → Account (commandsDone job s xs) (s .tally) (run job s xs .tally)
+pub run-account : (on : Setting) (s : State) (xs : List ℕ) → Stands on s → Account (commandsDone on s xs) (s .tally) (run on s xs .tally)
 unfolding run commandsDone
-run-account job s [] h = record { count = sym (add-zero (s .tally .commands)); entry = refl; entered = refl }
-run-account job s (x ∷ xs) h =
-    account-append (doneBy job s x) (commandsDone job (step job s x .state) xs) (s .tally) (step job s x .state .tally)
-    (run job (step job s x .state) xs .tally)
-    (account-one (seen (s .phase) s x) (s .tally) (step job s x .state .tally) (react-tells job s x (s .phase) (h .meant)))
-    (run-account job (step job s x .state) xs (step-stands job s x h))
+run-account on s [] h = record { count = sym (add-zero (s .tally .commands)); entry = refl; entered = refl }
+run-account on s (x ∷ xs) h =
+    account-append (doneBy on s x) (commandsDone on (step on s x .state) xs) (s .tally) (step on s x .state .tally)
+    (run on (step on s x .state) xs .tally)
+    (account-one (seen (s .phase) s x) (s .tally) (step on s x .state .tally) (react-tells on s x (s .phase) (h .meant)))
+    (run-account on (step on s x .state) xs (step-stands on s x h))
 
 -- ---- the last entry command of a list
 
 -- no command of the list is an entry
 abbrev pub NoEntry : List (List ℕ) → Type 0
-NoEntry cs = (d : List ℕ) → List·Memᴰ d cs → commandOf d ≡ Entry → ⊥
+NoEntry cs = (d : List ℕ) → List·Memᴰ d cs → named (commandId d) ≡ Known Entry → ⊥
 
 -- c is the last entry command of cs
 pub record LastEntry (cs : List (List ℕ)) (c : List ℕ) : Type 0 where
   pub before : List (List ℕ)
   pub behind : List (List ℕ)
   pub split : cs ≡ before ++ (c ∷ behind)
-  pub is : commandOf c ≡ Entry
+  pub is : named (commandId c) ≡ Known Entry
   pub last : NoEntry behind
 
-is-entry : (k : Command) → isEntry k ≡ true → k ≡ Entry
-is-entry Write e = absurd (false≢true e)
-is-entry Fill e = absurd (false≢true e)
-is-entry Entry e = refl
-is-entry Check e = absurd (false≢true e)
-is-entry Skip e = absurd (false≢true e)
+is-entry : (x : Named) → isEntry x ≡ true → x ≡ Known Entry
+is-entry (Known Write) e = absurd (false≢true e)
+is-entry (Known Fill) e = absurd (false≢true e)
+is-entry (Known Entry) e = refl
+is-entry (Known Check) e = absurd (false≢true e)
+is-entry Skipped e = absurd (false≢true e)
 is-entry Unknown e = absurd (false≢true e)
 
 entered-stays : (cs : List (List ℕ)) → enteredBy cs true ≡ true
 entered-stays [] = refl
 entered-stays (c ∷ cs) =
-    cond-cases (λ (f : Bool). enteredBy cs f ≡ true) (isEntry (commandOf c)) true true (λ e. entered-stays cs) (λ e. entered-stays cs)
+    cond-cases (λ (f : Bool). enteredBy cs f ≡ true) (isEntry (named (commandId c))) true true (λ e. entered-stays cs)
+    (λ e. entered-stays cs)
 
 -- a list in which nothing set an entry
-none-entered : (cs : List (List ℕ)) (a : ℕ) → enteredBy cs false ≡ false → (entryOf cs a ≡ a) × NoEntry cs
+pub none-entered : (cs : List (List ℕ)) (a : ℕ) → enteredBy cs false ≡ false → (entryOf cs a ≡ a) × NoEntry cs
 none-entered [] a e = (refl, λ d m q. List·Memᴰ·not-nil m)
-none-entered (c ∷ cs) a e = go (isEntry (commandOf c)) refl e (none-entered cs a)
+none-entered (c ∷ cs) a e = go (isEntry (named (commandId c))) refl e (none-entered cs a)
   where
-    go : (f : Bool) → isEntry (commandOf c) ≡ f → enteredBy cs (cond f true false) ≡ false
+    go : (f : Bool) → isEntry (named (commandId c)) ≡ f → enteredBy cs (cond f true false) ≡ false
         → (enteredBy cs false ≡ false → (entryOf cs a ≡ a) × NoEntry cs)
-        → (entryOf cs (cond (isEntry (commandOf c)) (address c) a) ≡ a) × NoEntry (c ∷ cs)
+        → (entryOf cs (cond (isEntry (named (commandId c))) (address c) a) ≡ a) × NoEntry (c ∷ cs)
     go true q z below = absurd (true≢false (sym (entered-stays cs) ∙ z))
     go false q z below =
         (rw q (below z .0), λ d m k. member d k (List·Memᴰ·cases-cons m))
       where
-        member : (d : List ℕ) → commandOf d ≡ Entry → (d ≡ c) ⊎ List·Memᴰ d cs → ⊥
-        member d k (inl e) = true≢false (ap isEntry (sym k ∙ ap commandOf e) ∙ q)
+        member : (d : List ℕ) → named (commandId d) ≡ Known Entry → (d ≡ c) ⊎ List·Memᴰ d cs → ⊥
+        member d k (inl e) = true≢false (ap isEntry (sym k ∙ ap (λ (x : List ℕ). named (commandId x)) e) ∙ q)
         member d k (inr m) = below z .1 d m k
 
 -- where one was set, the last one's address
 pub last-entry : (cs : List (List ℕ)) (a : ℕ) → enteredBy cs false ≡ true → (c : List ℕ) × LastEntry cs c × (entryOf cs a ≡ address c)
 last-entry [] a e = absurd (false≢true e)
 last-entry (c ∷ cs) a e =
-    go (isEntry (commandOf c)) refl (enteredBy cs false) refl e (λ (b : ℕ). last-entry cs b)
+    go (isEntry (named (commandId c))) refl (enteredBy cs false) refl e (λ (b : ℕ). last-entry cs b)
   where
-    go : (f : Bool) → isEntry (commandOf c) ≡ f → (g : Bool) → enteredBy cs false ≡ g → enteredBy cs (cond f true false) ≡ true
+    go : (f : Bool) → isEntry (named (commandId c)) ≡ f → (g : Bool) → enteredBy cs false ≡ g → enteredBy cs (cond f true false) ≡ true
         → ((b : ℕ) → enteredBy cs false ≡ true → (d : List ℕ) × LastEntry cs d × (entryOf cs b ≡ address d))
-        → (d : List ℕ) × LastEntry (c ∷ cs) d × (entryOf cs (cond (isEntry (commandOf c)) (address c) a) ≡ address d)
+        → (d : List ℕ) × LastEntry (c ∷ cs) d × (entryOf cs (cond (isEntry (named (commandId c))) (address c) a) ≡ address d)
     go f q true g z below =
-        let (d, l, e) = below (cond (isEntry (commandOf c)) (address c) a) g in
-        (d, record { before = c ∷ l .before; behind = l .behind; split = ap (λ (r : List (List ℕ)). c ∷ r) (l .split); is = l .is; last = l .last }, e)
+        let (d, l, e) = below (cond (isEntry (named (commandId c))) (address c) a) g in
+        let split = ap (λ (r : List (List ℕ)). c ∷ r) (l .split) in
+        (d, record { before = c ∷ l .before; behind = l .behind; split = split; is = l .is; last = l .last }, e)
     go true q false g z below =
         let none = none-entered cs (address c) g in
-        (c, record { before = []; behind = cs; split = refl; is = is-entry (commandOf c) q; last = none .1 }, rw q (none .0))
+        (c, record { before = []; behind = cs; split = refl; is = is-entry (named (commandId c)) q; last = none .1 }, rw q (none .0))
     go false q false g z below = absurd (false≢true (sym g ∙ z))
+
+-- and the other way round
+pub no-entry-entered : (cs : List (List ℕ)) → NoEntry cs → enteredBy cs false ≡ false
+no-entry-entered [] none = refl
+no-entry-entered (c ∷ cs) none =
+    cond-cases (λ (f : Bool). enteredBy cs f ≡ false) (isEntry (named (commandId c))) true false
+    (λ e. absurd (none c (List·Memᴰ·head refl) (is-entry (named (commandId c)) e)))
+    (λ e. no-entry-entered cs (λ d m. none d (List·Memᴰ·tail m)))
+
+pub last-entry-entered : (cs : List (List ℕ)) (c : List ℕ) → LastEntry cs c → enteredBy cs false ≡ true
+last-entry-entered cs c l =
+    let f = enteredBy (l .before) false in
+    ap (λ (ds : List (List ℕ)). enteredBy ds false) (l .split) ∙ enteredBy-append (l .before) (c ∷ l .behind) false
+    ∙ ap (λ (x : Named). enteredBy (l .behind) (cond (isEntry x) true f)) (l .is) ∙ entered-stays (l .behind)

@@ -79,6 +79,15 @@ byte-stored map m xs x ys inside none =
     ∙ byte-kept map (set before at (x .byte)) ys at none
     ∙ getD-set-same before at (x .byte) 0 (rw length-applied inside)
 
+-- the same, of the byte at index i
+pub last-at : (map : List Region) (m : List ℕ) (i : ℕ) (xs : List Store) (x : Store) (ys : List Store) {zs : List Store} → i < length m
+    → zs ≡ xs ++ (x ∷ ys) → offset map (x .address) ≡ i → ((y : Store) → List·Memᴰ y ys → offset map (y .address) ≢ i)
+    → getD (applied map m zs) i 0 ≡ x .byte
+last-at map m i xs x ys {zs} inside e at last =
+    ap (λ (s : List Store). getD (applied map m s) i 0) e
+    ∙ ap (λ (j : ℕ). getD (applied map m (xs ++ (x ∷ ys))) j 0) (sym at)
+    ∙ byte-stored map m xs x ys (omega (arith, at)) (λ y n q. last y n (sym q ∙ at))
+
 -- the stores of a range are at its addresses
 pub from-inside : (a : ℕ) (bs : List ℕ) (x : Store) → List·Memᴰ x (storesFrom a bs) → (a ≤ x .address) × (x .address < a + length bs)
 unfolding storesFrom

@@ -1,5 +1,5 @@
 -- Reserved bytes: a run does not depend on them.
-use mathlib.Core.Bool.{Bool, true, false, not, cond}
+use mathlib.Core.Bool.{not, cond}
 use mathlib.Core.Path.{_≡_, refl, sym, ap, ap₂, subst, subst₂, subst₃, _∙_}
 use mathlib.Core.List.{List, [], _∷_, _++_}
 use mathlib.Core.Logic.{_⊎_, inl, inr}
@@ -11,48 +11,49 @@ use lib.ListN.{length, replicate, take, drop}
 use Rattle.octets.specs.Numbers.{little}
 use Rattle.octets.specs.Parts.{part}
 use Rattle.answers.specs.Rules.{Rule, rule, firstBroken}
-use Rattle.board.specs.Board.{Board}
-use Rattle.board.specs.Cpuid.{lookup}
+use Rattle.answers.proofs.ChoiceLaws.{cond-both}
+use Rattle.board.specs.Cpuid.{Leaf, lookup}
+use Rattle.board.specs.Reach.{limit}
 use Rattle.machine.specs.Commands.{
-  command,
-  commandOf,
+  named,
+  commandId,
   dataLength,
   address,
   fillCount,
   pattern,
   judgedBytes,
   hasZero,
-  missing,
-  passes,
-  headerRules,
+  dataRules,
+  lengthRules,
   rangeRules,
   entryRules,
+  foundRules,
   checkRules,
 }
 use Rattle.machine.specs.Machine.{
-  Job,
+  Setting,
   State,
   Store,
-  Turn,
+  Effect,
   react,
   step,
   run,
   trace,
-  still,
+  noStores,
   kept,
   used,
-  turnedTo,
+  inPhase,
   stopped,
   tallied,
   awaiting,
   withStored,
   withEntry,
   withCommand,
-  begins,
+  commandBegins,
   finished,
   judged,
-  gathered,
-  passed,
+  gather,
+  headerSays,
   headerRead,
   writeRead,
   fillRead,
@@ -63,7 +64,9 @@ use Rattle.machine.specs.Machine.{
   unlessLast,
 }
 use Rattle.machine.specs.declared.Command.{Command}
-use Rattle.machine.specs.declared.Command.the-variants.{Write, Fill, Entry, Check, Skip, Unknown}
+use Rattle.machine.specs.declared.Command.the-variants.{Write, Fill, Entry, Check}
+use Rattle.machine.specs.declared.Named.{Named}
+use Rattle.machine.specs.declared.Named.the-variants.{Known, Skipped, Unknown}
 use Rattle.machine.specs.declared.Phase.{Phase}
 use Rattle.machine.specs.declared.Phase.the-variants.{Magic, Header, Parameters, Storing, Skipping, Stopped}
 
@@ -78,18 +81,18 @@ ReservedPlace i = ((2 ≤ i) × (i < 8)) ⊎ ((33 ≤ i) × (i < 40))
 abbrev pub ReservedNext : Phase → ℕ → Type 0
 ReservedNext Magic n = ⊥
 ReservedNext Header n = ReservedPlace n
-ReservedNext Parameters n = ReservedPlace n
+ReservedNext (Parameters k) n = ReservedPlace n
 ReservedNext (Storing a left) n = ⊥
 ReservedNext (Skipping left) n = ⊥
-ReservedNext (Stopped code place) n = Unit {0}
+ReservedNext (Stopped stop) n = Unit {0}
 
 -- two files that differ only in reserved bytes, along the run over the first
-abbrev pub Alike : Job → State → List ℕ → List ℕ → Type 0
-Alike job s [] [] = Unit {0}
-Alike job s [] (y ∷ ys) = ⊥
-Alike job s (x ∷ xs) [] = ⊥
-Alike job s (x ∷ xs) (y ∷ ys) =
-    ((x ≡ y) ⊎ ReservedNext (s .phase) (length (s .held))) × Alike job (step job s x .state) xs ys
+abbrev pub Alike : Setting → State → List ℕ → List ℕ → Type 0
+Alike on s [] [] = Unit {0}
+Alike on s [] (y ∷ ys) = ⊥
+Alike on s (x ∷ xs) [] = ⊥
+Alike on s (x ∷ xs) (y ∷ ys) =
+    ((x ≡ y) ⊎ ReservedNext (s .phase) (length (s .gathered))) × Alike on (step on s x .state) xs ys
 
 -- ---- bytes of a command that differ at most in reserved places, from place n on
 
@@ -158,222 +161,229 @@ module _ (h k : List ℕ) (m : Matched 0 h k) where
   same-number : (a n : ℕ) → Clear a n → little (part h a n) ≡ little (part k a n)
   same-number a n c = ap little (same-part a n c)
 
-  same-command : commandOf h ≡ commandOf k
-  same-command = ap command (same-number 0 2 (inl (lit≤ tt)))
+  same-command : commandId h ≡ commandId k
+  same-command = same-number 0 2 (inl (lit≤ tt))
 
   -- a field between the header's reserved bytes and those of the parameters
   same-field : (a n : ℕ) → 8 ≤ a → a + n ≤ 33 → little (part h a n) ≡ little (part k a n)
   same-field a n l u = same-number a n (inr (inl (l, u)))
 
--- ---- states that differ in what is held, and turns to such states
+-- ---- states that differ in what is gathered, and effects that lead to such states
 
-abbrev pub withHeld : List ℕ → State → State
-withHeld k s = record { phase = s .phase; held = k; start = s .start; next = s .next; tally = s .tally }
+abbrev pub withGathered : List ℕ → State → State
+withGathered k s = record { phase = s .phase; gathered = k; start = s .start; next = s .next; tally = s .tally }
 
--- what is held is read again in the first three phases only
-abbrev HeldAlike : Phase → List ℕ → List ℕ → Type 0
-HeldAlike Magic h k = h ≡ k
-HeldAlike Header h k = Matched 0 h k
-HeldAlike Parameters h k = Matched 0 h k
-HeldAlike (Storing a left) h k = Unit {0}
-HeldAlike (Skipping left) h k = Unit {0}
-HeldAlike (Stopped code place) h k = Unit {0}
+-- what is gathered is read again in the first three phases only
+abbrev GatheredAlike : Phase → List ℕ → List ℕ → Type 0
+GatheredAlike Magic h k = h ≡ k
+GatheredAlike Header h k = Matched 0 h k
+GatheredAlike (Parameters c) h k = Matched 0 h k
+GatheredAlike (Storing a left) h k = Unit {0}
+GatheredAlike (Skipping left) h k = Unit {0}
+GatheredAlike (Stopped stop) h k = Unit {0}
 
 abbrev Twin : State → State → Type 0
-Twin s t = (k : List ℕ) × (t ≡ withHeld k s) × HeldAlike (s .phase) (s .held) k
+Twin s t = (k : List ℕ) × (t ≡ withGathered k s) × GatheredAlike (s .phase) (s .gathered) k
 
-abbrev TwinTurn : Turn → Turn → Type 0
-TwinTurn t u = Twin (t .state) (u .state) × (u .stores ≡ t .stores)
+abbrev TwinEffect : Effect → Effect → Type 0
+TwinEffect t u = Twin (t .state) (u .state) × (u .stores ≡ t .stores)
 
 matched-refl : (n : ℕ) (h : List ℕ) → Matched n h h
 matched-refl n [] = tt
 matched-refl n (x ∷ h) = (inl refl, matched-refl (suc n) h)
 
-held-refl : (p : Phase) (h : List ℕ) → HeldAlike p h h
-held-refl Magic h = refl
-held-refl Header h = matched-refl 0 h
-held-refl Parameters h = matched-refl 0 h
-held-refl (Storing a left) h = tt
-held-refl (Skipping left) h = tt
-held-refl (Stopped code place) h = tt
+gathered-refl : (p : Phase) (h : List ℕ) → GatheredAlike p h h
+gathered-refl Magic h = refl
+gathered-refl Header h = matched-refl 0 h
+gathered-refl (Parameters c) h = matched-refl 0 h
+gathered-refl (Storing a left) h = tt
+gathered-refl (Skipping left) h = tt
+gathered-refl (Stopped stop) h = tt
 
-cond-both : {A : Type 0} (R : A → A → Type 0) (b : Bool) (x y z w : A) → R x z → R y w → R (cond b x y) (cond b z w)
-cond-both R true x y z w f g = f
-cond-both R false x y z w f g = g
-
-begins-twin : (job : Job) (s : State) (k : List ℕ) → Twin (begins job s) (begins job (withHeld k s))
-unfolding begins
-begins-twin job s k =
-    let t = withHeld k s in
-    cond-both Twin (eqb (s .next) (job .fileLength)) _ _ _ _
-    (cond-both Twin (s .tally .entered) (stopped 0 0 s) (stopped 27 (job .fileLength) s) (stopped 0 0 t) (stopped 27 (job .fileLength) t)
+begins-twin : (fileLength : ℕ) (s : State) (k : List ℕ) → Twin (commandBegins fileLength s) (commandBegins fileLength (withGathered k s))
+unfolding commandBegins
+begins-twin fileLength s k =
+    let t = withGathered k s in
+    cond-both Twin (eqb (s .next) fileLength) _ _ _ _
+    (cond-both Twin (s .tally .entered) (stopped 0 0 s) (stopped 27 fileLength s) (stopped 0 0 t) (stopped 27 fileLength t)
     (k, refl, tt) (k, refl, tt))
-    (cond-both Twin (ltb (job .fileLength - s .next) 16) (stopped 17 (s .next) s) (awaiting s) (stopped 17 (s .next) t) (awaiting t)
+    (cond-both Twin (ltb (fileLength - s .next) 16) (stopped 17 (s .next) s) (awaiting s) (stopped 17 (s .next) t) (awaiting t)
     (k, refl, tt) ([], refl, tt))
 
-finished-twin : (job : Job) (s : State) (k : List ℕ) → Twin (finished job s) (finished job (withHeld k s))
+finished-twin : (fileLength : ℕ) (s : State) (k : List ℕ) → Twin (finished fileLength s) (finished fileLength (withGathered k s))
 unfolding finished
-finished-twin job s k = begins-twin job (tallied (withCommand (s .tally)) s) k
+finished-twin fileLength s k = begins-twin fileLength (tallied (withCommand (s .tally)) s) k
 
-judged-twin : (code : ℕ) (s : State) (k : List ℕ) (t u : Turn) → TwinTurn t u → TwinTurn (judged code s t) (judged code (withHeld k s) u)
+judged-twin : (code : ℕ) (s : State) (k : List ℕ) (t u : Effect) → TwinEffect t u
+    → TwinEffect (judged code s t) (judged code (withGathered k s) u)
 judged-twin code s k t u h =
-    cond-both TwinTurn (eqb code 0) t (still (stopped code (s .start) s)) u (still (stopped code (s .start) (withHeld k s))) h
+    cond-both TwinEffect (eqb code 0) t (noStores (stopped code (s .start) s)) u (noStores (stopped code (s .start) (withGathered k s))) h
     ((k, refl, tt), refl)
 
 -- ---- what a command's bytes say, by the fields that are read
 
-headed : Job → Command → ℕ → State → Turn
-headed job c n s = judged (firstBroken (headerRules c n (job .fileLength - s .next))) s (still (passed job c n s))
+written : Setting → ℕ → ℕ → State → Effect
+written on a n s =
+    judged (firstBroken (rangeRules (on .map) (limit (on .job .mode)) a n)) s
+    (noStores (cond (eqb n 0) (finished (on .job .length) s) (inPhase (Storing a n) s)))
 
-written : Job → ℕ → ℕ → State → Turn
-written job a n s =
-    judged (firstBroken (rangeRules (job .unit) a n)) s (still (cond (eqb n 0) (finished job s) (turnedTo (Storing a n) s)))
+filled : Setting → ℕ → ℕ → ℕ → State → Effect
+filled on a n b s =
+    judged (firstBroken (rangeRules (on .map) (limit (on .job .mode)) a n)) s
+    (record { state = finished (on .job .length) (tallied (withStored n (s .tally)) s); stores = storesFrom a (replicate n b) })
 
-filled : Job → ℕ → ℕ → ℕ → State → Turn
-filled job a n b s =
-    judged (firstBroken (rangeRules (job .unit) a n)) s
-    (record { state = finished job (tallied (withStored n (s .tally)) s); stores = storesFrom a (replicate n b) })
+entered : Setting → ℕ → State → Effect
+entered on a s =
+    judged (firstBroken (entryRules (limit (on .job .mode)) a)) s
+    (noStores (finished (on .job .length) (tallied (withEntry a (s .tally)) s)))
 
-entered : Job → ℕ → State → Turn
-entered job a s =
-    judged (firstBroken (entryRules (job .unit) a)) s (still (finished job (tallied (withEntry a (s .tally)) s)))
+checked : List Leaf → ℕ → ℕ → ℕ → ℕ → ℕ → List ℕ → List Rule
+checked table x a v m r t =
+    rule 22 (not (hasZero t)) ∷ rule 23 (eqb (length table) 0) ∷ rule 24 (ltb 3 r) ∷ foundRules (lookup table a x r) m v
 
-checked : Board → ℕ → ℕ → ℕ → ℕ → ℕ → List ℕ → List Rule
-checked unit x a v m r t =
-    let found = lookup (unit .table) a x r in
-    rule 22 (not (hasZero t)) ∷ rule 23 (eqb (length (unit .table)) 0) ∷ rule 24 (ltb 3 r) ∷ rule 25 (missing found)
-    ∷ rule 26 (not (passes found m v)) ∷ []
+module _ (on : Setting) (s : State) (k : List ℕ) (m : Matched 0 (s .gathered) k) where
+  says-twin : (x : Named) (n : ℕ) → TwinEffect (headerSays x (on .job .length) n s) (headerSays x (on .job .length) n (withGathered k s))
+  unfolding headerSays
+  says-twin (Known c) n =
+      judged-twin (firstBroken (lengthRules c n (on .job .length - s .next))) s k (noStores (inPhase (Parameters c) s))
+      (noStores (inPhase (Parameters c) (withGathered k s))) ((k, refl, m), refl)
+  says-twin Skipped n =
+      let t = withGathered k s in
+      judged-twin (firstBroken (dataRules n (on .job .length - s .next))) s k _ _ (
+        cond-both Twin (eqb n 0) (finished (on .job .length) s) (inPhase (Skipping n) s) (finished (on .job .length) t)
+            (inPhase (Skipping n) t) (finished-twin (on .job .length) s k) (k, refl, tt),
+        refl,
+      )
+  says-twin Unknown n = ((k, refl, tt), refl)
 
-module _ (job : Job) (s : State) (k : List ℕ) (m : Matched 0 (s .held) k) (same : HeldAlike (s .phase) (s .held) k) where
-  passed-twin : (c : Command) (n : ℕ) → Twin (passed job c n s) (passed job c n (withHeld k s))
-  unfolding passed
-  passed-twin Write n = (k, refl, m)
-  passed-twin Fill n = (k, refl, m)
-  passed-twin Entry n = (k, refl, m)
-  passed-twin Check n = (k, refl, m)
-  passed-twin Skip n =
-      cond-both Twin (eqb n 0) (finished job s) (turnedTo (Skipping n) s) (finished job (withHeld k s)) (turnedTo (Skipping n) (withHeld k s))
-      (finished-twin job s k) (k, refl, tt)
-  passed-twin Unknown n = (k, refl, same)
-
-  header-twin : TwinTurn (headerRead job s) (headerRead job (withHeld k s))
-  unfolding headerRead headed
+  header-twin : TwinEffect (headerRead (on .job .length) s) (headerRead (on .job .length) (withGathered k s))
+  unfolding headerRead
   header-twin =
-      let c = commandOf (s .held) in
-      let n = dataLength (s .held) in
-      subst₂ (λ (d : Command) (l : ℕ). TwinTurn (headed job c n s) (headed job d l (withHeld k s))) (same-command (s .held) k m)
-      (same-field (s .held) k m 8 8 (lit≤ tt) (lit≤ tt))
-      (judged-twin (firstBroken (headerRules c n (job .fileLength - s .next))) s k (still (passed job c n s)) (still (passed job c n (withHeld k s)))
-      (passed-twin c n, refl))
+      let c = commandId (s .gathered) in
+      let n = dataLength (s .gathered) in
+      let says : ℕ → ℕ → State → Effect = λ d l t. headerSays (named d) (on .job .length) l t in
+      subst₂ (λ (d l : ℕ). TwinEffect (says c n s) (says d l (withGathered k s))) (same-command (s .gathered) k m)
+      (same-field (s .gathered) k m 8 8 (lit≤ tt) (lit≤ tt)) (says-twin (named c) n)
 
-  parameters-twin : (c : Command) → TwinTurn (parametersRead job c s) (parametersRead job c (withHeld k s))
+  parameters-twin : (c : Command) → TwinEffect (parametersRead c on s) (parametersRead c on (withGathered k s))
   unfolding parametersRead writeRead fillRead entryRead checkRead written filled entered checked
   parameters-twin Write =
-      let a = address (s .held) in
-      let n = dataLength (s .held) - 8 in
-      let t = withHeld k s in
-      subst₂ (λ (b : ℕ) (l : ℕ). TwinTurn (written job a n s) (written job b (l - 8) t))
-      (same-field (s .held) k m 16 8 (lit≤ tt) (lit≤ tt)) (same-field (s .held) k m 8 8 (lit≤ tt) (lit≤ tt))
-      (judged-twin (firstBroken (rangeRules (job .unit) a n)) s k _ _ (
-        cond-both Twin (eqb n 0) (finished job s) (turnedTo (Storing a n) s) (finished job t) (turnedTo (Storing a n) t)
-            (finished-twin job s k) (k, refl, tt),
+      let a = address (s .gathered) in
+      let n = dataLength (s .gathered) - 8 in
+      let t = withGathered k s in
+      subst₂ (λ (b : ℕ) (l : ℕ). TwinEffect (written on a n s) (written on b (l - 8) t))
+      (same-field (s .gathered) k m 16 8 (lit≤ tt) (lit≤ tt)) (same-field (s .gathered) k m 8 8 (lit≤ tt) (lit≤ tt))
+      (judged-twin (firstBroken (rangeRules (on .map) (limit (on .job .mode)) a n)) s k _ _ (
+        cond-both Twin (eqb n 0) (finished (on .job .length) s) (inPhase (Storing a n) s) (finished (on .job .length) t)
+            (inPhase (Storing a n) t) (finished-twin (on .job .length) s k) (k, refl, tt),
         refl,
       ))
   parameters-twin Fill =
-      let a = address (s .held) in
-      let n = fillCount (s .held) in
-      let b = pattern (s .held) in
-      let t = withHeld k s in
-      subst₃ (λ (x y z : ℕ). TwinTurn (filled job a n b s) (filled job x y z t))
-      (same-field (s .held) k m 16 8 (lit≤ tt) (lit≤ tt)) (same-field (s .held) k m 24 8 (lit≤ tt) (lit≤ tt))
-      (same-field (s .held) k m 32 1 (lit≤ tt) (lit≤ tt))
-      (judged-twin (firstBroken (rangeRules (job .unit) a n)) s k _ _ (finished-twin job (tallied (withStored n (s .tally)) s) k, refl))
+      let a = address (s .gathered) in
+      let n = fillCount (s .gathered) in
+      let b = pattern (s .gathered) in
+      let t = withGathered k s in
+      subst₃ (λ (x y z : ℕ). TwinEffect (filled on a n b s) (filled on x y z t))
+      (same-field (s .gathered) k m 16 8 (lit≤ tt) (lit≤ tt)) (same-field (s .gathered) k m 24 8 (lit≤ tt) (lit≤ tt))
+      (same-field (s .gathered) k m 32 1 (lit≤ tt) (lit≤ tt))
+      (judged-twin (firstBroken (rangeRules (on .map) (limit (on .job .mode)) a n)) s k _ _
+      (finished-twin (on .job .length) (tallied (withStored n (s .tally)) s) k, refl))
   parameters-twin Entry =
-      let a = address (s .held) in
-      subst (λ (x : ℕ). TwinTurn (entered job a s) (entered job x (withHeld k s))) (same-field (s .held) k m 16 8 (lit≤ tt) (lit≤ tt))
-      (judged-twin (firstBroken (entryRules (job .unit) a)) s k _ _ (finished-twin job (tallied (withEntry a (s .tally)) s) k, refl))
+      let a = address (s .gathered) in
+      subst (λ (x : ℕ). TwinEffect (entered on a s) (entered on x (withGathered k s)))
+      (same-field (s .gathered) k m 16 8 (lit≤ tt) (lit≤ tt))
+      (judged-twin (firstBroken (entryRules (limit (on .job .mode)) a)) s k _ _
+      (finished-twin (on .job .length) (tallied (withEntry a (s .tally)) s) k, refl))
   parameters-twin Check =
-      let rs = checkRules (job .unit) (s .held) in
-      let e : rs ≡ checkRules (job .unit) k =
-      λ i. checked (job .unit) (same-field (s .held) k m 16 4 (lit≤ tt) (lit≤ tt) i) (same-field (s .held) k m 20 4 (lit≤ tt) (lit≤ tt) i)
-      (same-field (s .held) k m 24 4 (lit≤ tt) (lit≤ tt) i) (same-field (s .held) k m 28 4 (lit≤ tt) (lit≤ tt) i)
-      (same-field (s .held) k m 32 1 (lit≤ tt) (lit≤ tt) i) (same-part (s .held) k m 40 64 (inr (inr (lit≤ tt))) i) in
-      subst (λ (x : List Rule). TwinTurn (judged (firstBroken rs) s (still (finished job s))) (judged (firstBroken x) (withHeld k s) (still (finished job (withHeld k s))))) e
-      (judged-twin (firstBroken rs) s k _ _ (finished-twin job s k, refl))
-  parameters-twin Skip = ((k, refl, same), refl)
-  parameters-twin Unknown = ((k, refl, same), refl)
+      let rs = checkRules (on .table) (s .gathered) in
+      let t = withGathered k s in
+      let says : List Rule → State → Effect = λ x u. judged (firstBroken x) u (noStores (finished (on .job .length) u)) in
+      let field = same-field (s .gathered) k m in
+      let e : rs ≡ checkRules (on .table) k =
+      λ i. checked (on .table) (field 16 4 (lit≤ tt) (lit≤ tt) i) (field 20 4 (lit≤ tt) (lit≤ tt) i)
+      (field 24 4 (lit≤ tt) (lit≤ tt) i) (field 28 4 (lit≤ tt) (lit≤ tt) i)
+      (field 32 1 (lit≤ tt) (lit≤ tt) i) (same-part (s .gathered) k m 40 64 (inr (inr (lit≤ tt))) i) in
+      subst (λ (x : List Rule). TwinEffect (says rs s) (says x t)) e
+      (judged-twin (firstBroken rs) s k _ _ (finished-twin (on .job .length) s k, refl))
 
 -- ---- one byte, and all
 
-twin-refl : (t : Turn) → TwinTurn t t
-twin-refl t = ((t .state .held, refl, held-refl (t .state .phase) (t .state .held)), refl)
+twin-refl : (t : Effect) → TwinEffect t t
+twin-refl t = ((t .state .gathered, refl, gathered-refl (t .state .phase) (t .state .gathered)), refl)
 
-gathered-twin : (wanted : ℕ) (u : State) (k : List ℕ) (t v : Turn) → Matched 0 (u .held) k → HeldAlike (u .phase) (u .held) k
-    → TwinTurn t v → TwinTurn (gathered wanted u t) (gathered wanted (withHeld k u) v)
-gathered-twin wanted u k t v m same h =
-    subst (λ (n : ℕ). TwinTurn (gathered wanted u t) (cond (ltb n wanted) (still (withHeld k u)) v)) (matched-length 0 (u .held) k m)
-    (cond-both TwinTurn (ltb (length (u .held)) wanted) (still u) t (still (withHeld k u)) v ((k, refl, same), refl) h)
+last-twin : (on : Setting) (left : ℕ) (p : Phase) (s : State) (k : List ℕ) → GatheredAlike p (s .gathered) k
+    → Twin (unlessLast (on .job .length) left p s) (unlessLast (on .job .length) left p (withGathered k s))
+last-twin on left p s k h =
+    let t = withGathered k s in
+    cond-both Twin (eqb left 1) (finished (on .job .length) s) (inPhase p s) (finished (on .job .length) t) (inPhase p t)
+    (finished-twin (on .job .length) s k) (k, refl, h)
 
-last-twin : (job : Job) (left : ℕ) (p : Phase) (s : State) (k : List ℕ) → HeldAlike p (s .held) k
-    → Twin (unlessLast job left p s) (unlessLast job left p (withHeld k s))
-last-twin job left p s k h =
-    cond-both Twin (eqb left 1) (finished job s) (turnedTo p s) (finished job (withHeld k s)) (turnedTo p (withHeld k s)) (finished-twin job s k) (k, refl, h)
+module _ (on : Setting) (s : State) (k : List ℕ) (x y : ℕ) where
+  gathered-more : Matched 0 (s .gathered) k → (x ≡ y) ⊎ ReservedPlace (length (s .gathered))
+      → Matched 0 (s .gathered ++ (x ∷ [])) (k ++ (y ∷ []))
+  gathered-more m q =
+      matched-more 0 (s .gathered) k x y m (subst (λ (i : ℕ). (x ≡ y) ⊎ ReservedPlace i) (sym (zero-add (length (s .gathered)))) q)
 
-module _ (job : Job) (s : State) (k : List ℕ) (x y : ℕ) where
-  held-more : Matched 0 (s .held) k → (x ≡ y) ⊎ ReservedPlace (length (s .held)) → Matched 0 (s .held ++ (x ∷ [])) (k ++ (y ∷ []))
-  held-more m q =
-      matched-more 0 (s .held) k x y m (subst (λ (i : ℕ). (x ≡ y) ⊎ ReservedPlace i) (sym (zero-add (length (s .held)))) q)
+  gather-twin : (all : ℕ) (says : State → Effect) → let u = kept x s in let j = k ++ (y ∷ []) in
+      Matched 0 (u .gathered) j → GatheredAlike (u .phase) (u .gathered) j → TwinEffect (says u) (says (withGathered j u))
+      → TwinEffect (gather all says s x) (gather all says (withGathered k s) y)
+  gather-twin all says m same h =
+      let u = kept x s in
+      let v = withGathered (k ++ (y ∷ [])) u in
+      subst (λ (n : ℕ). TwinEffect (gather all says s x) (cond (ltb n all) (noStores v) (says v)))
+      (matched-length 0 (u .gathered) (v .gathered) m)
+      (cond-both TwinEffect (ltb (length (u .gathered)) all) (noStores u) (says u) (noStores v) (says v)
+      ((v .gathered, refl, same), refl) h)
 
-  react-twin : (p : Phase) → s .phase ≡ p → HeldAlike p (s .held) k → (x ≡ y) ⊎ ReservedNext p (length (s .held))
-      → TwinTurn (react p job s x) (react p job (withHeld k s) y)
+  react-twin : (p : Phase) → s .phase ≡ p → GatheredAlike p (s .gathered) k → (x ≡ y) ⊎ ReservedNext p (length (s .gathered))
+      → TwinEffect (react p on s x) (react p on (withGathered k s) y)
   unfolding react
   react-twin Magic e h (inl q) =
-      subst₂ (λ (j : List ℕ) (z : ℕ). TwinTurn (react Magic job s x) (react Magic job (withHeld j s) z)) h q (twin-refl (react Magic job s x))
+      subst₂ (λ (j : List ℕ) (z : ℕ). TwinEffect (react Magic on s x) (react Magic on (withGathered j s) z)) h q
+      (twin-refl (react Magic on s x))
   react-twin Magic e h (inr r) = absurd r
   react-twin Header e h q =
       let u = kept x s in
       let j = k ++ (y ∷ []) in
-      let m = held-more h q in
-      let same = subst (λ (p : Phase). HeldAlike p (u .held) j) (sym e) m in
-      gathered-twin 16 u j (headerRead job u) (headerRead job (withHeld j u)) m same (header-twin job u j m same)
-  react-twin Parameters e h q =
+      let m = gathered-more h q in
+      let same = subst (λ (p : Phase). GatheredAlike p (u .gathered) j) (sym e) m in
+      gather-twin 16 (headerRead (on .job .length)) m same (header-twin on u j m)
+  react-twin (Parameters c) e h q =
       let u = kept x s in
       let j = k ++ (y ∷ []) in
-      let m = held-more h q in
-      let c = commandOf (u .held) in
-      let same = subst (λ (p : Phase). HeldAlike p (u .held) j) (sym e) m in
-      subst (λ (d : Command). TwinTurn (gathered (16 + judgedBytes c) u (parametersRead job c u)) (gathered (16 + judgedBytes d) (withHeld j u) (parametersRead job d (withHeld j u)))) (same-command (u .held) j m)
-      (gathered-twin (16 + judgedBytes c) u j (parametersRead job c u) (parametersRead job c (withHeld j u)) m same (parameters-twin job u j m same c))
+      let m = gathered-more h q in
+      let same = subst (λ (p : Phase). GatheredAlike p (u .gathered) j) (sym e) m in
+      gather-twin (16 + judgedBytes c) (parametersRead c on) m same (parameters-twin on u j m c)
   react-twin (Storing a left) e h (inl q) = (
-    last-twin job left (Storing (suc a) (pred left)) (used (tallied (withStored 1 (s .tally)) s)) k tt,
+    last-twin on left (Storing (suc a) (pred left)) (used (tallied (withStored 1 (s .tally)) s)) k tt,
     ap (λ (z : ℕ). record { address = a; byte = z } ∷ []) (sym q),
   )
   react-twin (Storing a left) e h (inr r) = absurd r
-  react-twin (Skipping left) e h q = (last-twin job left (Skipping (pred left)) (used s) k tt, refl)
-  react-twin (Stopped code place) e h q = ((k, refl, subst (λ (p : Phase). HeldAlike p (s .held) k) (sym e) tt), refl)
+  react-twin (Skipping left) e h q = (last-twin on left (Skipping (pred left)) (used s) k tt, refl)
+  react-twin (Stopped stop) e h q = ((k, refl, subst (λ (p : Phase). GatheredAlike p (s .gathered) k) (sym e) tt), refl)
 
-run-twin : (job : Job) (s : State) (k xs ys : List ℕ) → HeldAlike (s .phase) (s .held) k → Alike job s xs ys
-    → ((j : List ℕ) × (run job (withHeld k s) ys ≡ withHeld j (run job s xs))) × (trace job (withHeld k s) ys ≡ trace job s xs)
+run-twin : (on : Setting) (s : State) (k xs ys : List ℕ) → GatheredAlike (s .phase) (s .gathered) k → Alike on s xs ys
+    → ((j : List ℕ) × (run on (withGathered k s) ys ≡ withGathered j (run on s xs))) × (trace on (withGathered k s) ys ≡ trace on s xs)
 unfolding run trace
-run-twin job s k [] [] h q = ((k, refl), refl)
-run-twin job s k [] (y ∷ ys) h q = absurd q
-run-twin job s k (x ∷ xs) [] h q = absurd q
-run-twin job s k (x ∷ xs) (y ∷ ys) h q =
-    let t = step job s x in
-    let u = react (s .phase) job (withHeld k s) y in
-    let ((j, e, same), stores) = react-twin job s k x y (s .phase) refl h (q .0) in
-    let (end, rest) = run-twin job (t .state) j xs ys same (q .1) in (
-      (end .0, ap (λ (v : State). run job v ys) e ∙ end .1),
-      ap₂ (λ (v : List Store) (w : State). v ++ trace job w ys) stores e ∙ ap (λ (v : List Store). t .stores ++ v) rest,
+run-twin on s k [] [] h q = ((k, refl), refl)
+run-twin on s k [] (y ∷ ys) h q = absurd q
+run-twin on s k (x ∷ xs) [] h q = absurd q
+run-twin on s k (x ∷ xs) (y ∷ ys) h q =
+    let t = step on s x in
+    let u = react (s .phase) on (withGathered k s) y in
+    let ((j, e, same), stores) = react-twin on s k x y (s .phase) refl h (q .0) in
+    let (end, rest) = run-twin on (t .state) j xs ys same (q .1) in (
+      (end .0, ap (λ (v : State). run on v ys) e ∙ end .1),
+      ap₂ (λ (v : List Store) (w : State). v ++ trace on w ys) stores e ∙ ap (λ (v : List Store). t .stores ++ v) rest,
     )
 
--- two files that differ only in reserved bytes lead to the same state, but for what is held, by the same stores
-pub alike-run : (job : Job) (s : State) (xs ys : List ℕ) → Alike job s xs ys
-    → ((j : List ℕ) × (run job s ys ≡ withHeld j (run job s xs))) × (trace job s ys ≡ trace job s xs)
-alike-run job s xs ys q = run-twin job s (s .held) xs ys (held-refl (s .phase) (s .held)) q
+-- two files that differ only in reserved bytes lead to the same state, but for what is gathered, by the same stores
+pub alike-run : (on : Setting) (s : State) (xs ys : List ℕ) → Alike on s xs ys
+    → ((j : List ℕ) × (run on s ys ≡ withGathered j (run on s xs))) × (trace on s ys ≡ trace on s xs)
+alike-run on s xs ys q = run-twin on s (s .gathered) xs ys (gathered-refl (s .phase) (s .gathered)) q
 
-pub alike-length : (job : Job) (s : State) (xs ys : List ℕ) → Alike job s xs ys → length xs ≡ length ys
-alike-length job s [] [] q = refl
-alike-length job s [] (y ∷ ys) q = absurd q
-alike-length job s (x ∷ xs) [] q = absurd q
-alike-length job s (x ∷ xs) (y ∷ ys) q = ap suc (alike-length job (step job s x .state) xs ys (q .1))
+pub alike-length : (on : Setting) (s : State) (xs ys : List ℕ) → Alike on s xs ys → length xs ≡ length ys
+alike-length on s [] [] q = refl
+alike-length on s [] (y ∷ ys) q = absurd q
+alike-length on s (x ∷ xs) [] q = absurd q
+alike-length on s (x ∷ xs) (y ∷ ys) q = ap suc (alike-length on (step on s x .state) xs ys (q .1))

@@ -1,8 +1,8 @@
--- What every state that a run comes to satisfies, and what each of its turns does.
-use mathlib.Core.Bool.{Bool, true, false, true≢false, cond}
+-- What every state that a run comes to satisfies, and what each byte does to it.
+use mathlib.Core.Bool.{Bool, true, false, _||_, cond}
 use mathlib.Core.Path.{_≡_, refl, sym, ap, _∙_}
 use mathlib.Core.List.{List, [], _∷_, _++_}
-use mathlib.Core.Logic.{_⊎_, inl, inr}
+use mathlib.Core.Logic.{_⊎_, inl, inr, _≢_}
 use Prim.Native.Nat.{ℕ, suc, pred, _+_, _-_, _≤_, _<_, max}
 use native.Mathlib.Nat.{add-zero}
 use native.Mathlib.Omega.{arith}
@@ -11,48 +11,51 @@ use lib.Dec.{T, eqb, leb, ltb, lit≤}
 use lib.ListN.{length, replicate, take, drop, length-append, length-replicate, length-drop}
 use lib.Seq.{take-append-le, drop-append-le}
 use Rattle.octets.specs.Numbers.{little}
+use Rattle.answers.specs.Answers.{stopAt}
 use Rattle.answers.specs.Rules.{Rule, firstBroken}
-use Rattle.answers.proofs.RuleLaws.{numbered, AllHold, zero-all-hold, EachCode, first-broken-has}
-use Rattle.board.specs.Board.{Board}
-use Rattle.board.specs.Map.{Region, end, uncovered, ram, reachable}
+use Rattle.answers.specs.declared.Stop.{Stop}
+use Rattle.answers.proofs.ChoiceLaws.{cond-cases, cond-parts}
+use Rattle.answers.proofs.RuleLaws.{numbered, AllHold, zero-all-hold, codesPass, not-none}
+use Rattle.board.specs.Map.{Region, end, uncovered, ram}
+use Rattle.board.specs.Reach.{limit, reachable}
 use Rattle.board.proofs.MapLaws.{ram-empty}
-use Rattle.machine.proofs.MemoryLaws.{length-storesFrom}
 use Rattle.machine.specs.Commands.{
-  command,
-  commandOf,
+  named,
+  commandId,
   dataLength,
   address,
   fillCount,
   pattern,
   judgedBytes,
-  unknown,
   wrongLength,
-  headerRules,
+  dataRules,
+  lengthRules,
   rangeRules,
   entryRules,
   checkRules,
 }
 use Rattle.machine.specs.Machine.{
-  Job,
+  Setting,
   State,
   Store,
-  Turn,
+  Effect,
   react,
   step,
-  still,
+  noStores,
   kept,
   used,
-  turnedTo,
+  inPhase,
   stopped,
   tallied,
+  awaiting,
   withStored,
   withEntry,
   withCommand,
-  begins,
+  commandBegins,
   finished,
   judged,
   magicRead,
-  passed,
+  headerSays,
   headerRead,
   writeRead,
   fillRead,
@@ -63,171 +66,246 @@ use Rattle.machine.specs.Machine.{
   begun,
 }
 use Rattle.machine.specs.declared.Command.{Command}
-use Rattle.machine.specs.declared.Command.the-variants.{Write, Fill, Entry, Check, Skip, Unknown}
-use Rattle.machine.specs.declared.Tally.{Tally}
+use Rattle.machine.specs.declared.Command.the-variants.{Write, Fill, Entry, Check}
+use Rattle.machine.specs.declared.Named.{Named}
+use Rattle.machine.specs.declared.Named.the-variants.{Known, Skipped, Unknown}
 use Rattle.machine.specs.declared.Phase.{Phase}
 use Rattle.machine.specs.declared.Phase.the-variants.{Magic, Header, Parameters, Storing, Skipping, Stopped}
+use Rattle.machine.specs.declared.Tally.{Tally}
+use Rattle.machine.proofs.MemoryLaws.{length-storesFrom}
+
+-- ---- the ways that a step goes
+
+-- where a command would begin
+pub begins-cases : (P : State → Type 0) (fileLength : ℕ) (s : State)
+    → (s .next ≡ fileLength → s .tally .entered ≡ true → P (stopped 0 0 s))
+    → (s .next ≡ fileLength → s .tally .entered ≡ false → P (stopped 27 fileLength s))
+    → (s .next ≢ fileLength → P (stopped 17 (s .next) s)) → (16 ≤ fileLength - s .next → P (awaiting s)) → P (commandBegins fileLength s)
+unfolding commandBegins
+begins-cases P fileLength s done without short on =
+    cond-cases P (eqb (s .next) fileLength) _ _
+    (λ e. let end = eqb-true (s .next) fileLength e in
+    cond-cases P (s .tally .entered) (stopped 0 0 s) (stopped 27 fileLength s) (done end) (without end))
+    (λ e. cond-cases P (ltb (fileLength - s .next) 16) (stopped 17 (s .next) s) (awaiting s)
+    (λ f. short (eqb-false (s .next) fileLength e)) (λ f. on (ltb-false (fileLength - s .next) 16 f)))
+
+-- the number that a command file begins with
+abbrev pub fileMagic : ℕ
+fileMagic = 0x8adc5fa2448cb65e
+
+-- the magic is judged
+pub magic-cases : (P : Effect → Type 0) (fileLength : ℕ) (s : State)
+    → (little (s .gathered) ≡ fileMagic → P (noStores (commandBegins fileLength s)))
+    → (little (s .gathered) ≢ fileMagic → P (noStores (stopped 16 0 s))) → P (magicRead fileLength s)
+unfolding magicRead
+magic-cases P fileLength s same differs =
+    cond-cases (λ (t : State). P (noStores t)) (eqb (little (s .gathered)) fileMagic) (commandBegins fileLength s) (stopped 16 0 s)
+    (λ e. same (eqb-true (little (s .gathered)) fileMagic e)) (λ e. differs (eqb-false (little (s .gathered)) fileMagic e))
+
+-- the numbers by which commands are refused
+abbrev isCommandCode : ℕ → Bool
+isCommandCode c = cond (leb 17 c) (leb c 26) false
+
+-- the rules' numbers are of these
+abbrev pub CommandRules : List Rule → Type 0
+CommandRules rs = T (numbered rs) × T (codesPass (λ (c : ℕ). eqb c 0 || isCommandCode c) rs)
+
+-- a command that is judged by such rules
+pub judged-cases : (P : Effect → Type 0) (rs : List Rule) (s : State) (t : Effect) → CommandRules rs
+    → ((code : ℕ) → 17 ≤ code → code ≤ 26 → P (noStores (stopped code (s .start) s))) → (AllHold rs → P t)
+    → P (judged (firstBroken rs) s t)
+judged-cases P rs s t (n, codes) refused f =
+    let code = firstBroken rs in
+    cond-cases P (eqb code 0) t (noStores (stopped code (s .start) s)) (λ e. f (zero-all-hold rs n (eqb-true code 0 e)))
+    (λ e. let c = cond-parts (leb 17 code) (leb code 26) (not-none isCommandCode rs codes (eqb-false code 0 e)) in
+    refused code (lit≤ (c .0)) (lit≤ (c .1)))
 
 -- ---- what the numbers of a state mean
 
--- how a run has ended: done at the file's end with an entry; before any store, at the magic; or refused behind it
-pub data Ended (job : Job) (s : State) (code : ℕ) : Type 0 where
-  at-end : code ≡ 0 → s .next ≡ job .fileLength → s .tally .entered ≡ true → Ended job s code
-  at-magic : code ≡ 16 → s .tally .stored ≡ 0 → Ended job s code
-  at-command : 17 ≤ code → code ≤ 27 → Ended job s code
+-- how a run has ended: done at the file's end with an entry; before any store, at the magic; refused at a command;
+-- or at the file's end without an entry
+pub data Ended (on : Setting) (s : State) (stop : Stop) : Type 0 where
+  at-end : stop .code ≡ 0 → s .next ≡ on .job .length → s .tally .entered ≡ true → Ended on s stop
+  at-magic : stop .code ≡ 16 → s .tally .stored ≡ 0 → Ended on s stop
+  at-command : 17 ≤ stop .code → stop .code ≤ 26 → Ended on s stop
+  without-entry : stop .code ≡ 27 → s .next ≡ on .job .length → s .tally .entered ≡ false → Ended on s stop
 
--- what each phase says of the bytes held and of the bytes to come
-abbrev pub Meant : Job → Phase → State → Type 0
-Meant job Magic s =
-    (s .next ≡ length (s .held)) × (s .next < 8) × (8 ≤ job .fileLength) × (s .tally .stored ≡ 0)
-Meant job Header s =
-    (s .next ≡ s .start + length (s .held)) × (length (s .held) < 16) × (s .start + 16 ≤ job .fileLength)
-Meant job Parameters s =
-    (s .next ≡ s .start + length (s .held)) × (16 ≤ length (s .held))
-    × (length (s .held) < 16 + judgedBytes (commandOf (s .held)))
-    × (wrongLength (commandOf (s .held)) (dataLength (s .held)) ≡ false)
-    × (s .start + 16 + dataLength (s .held) ≤ job .fileLength)
-Meant job (Storing a left) s =
-    (0 < left) × (s .next + left ≤ job .fileLength) × (ram (job .unit .map) a left ≡ true)
-    × (a + left ≤ job .unit .reach) × (commandOf (s .held) ≡ Write)
-Meant job (Skipping left) s =
-    (0 < left) × (s .next + left ≤ job .fileLength) × (commandOf (s .held) ≡ Skip)
-Meant job (Stopped code place) s = Ended job s code
+pub ended-done : (on : Setting) (s : State) (stop : Stop) → Ended on s stop → stop .code ≡ 0
+    → (s .next ≡ on .job .length) × (s .tally .entered ≡ true)
+ended-done on s stop (at-end c n f) q = (n, f)
+ended-done on s stop (at-magic c n) q = absurd (omega arith)
+ended-done on s stop (at-command l u) q = absurd (omega arith)
+ended-done on s stop (without-entry c n f) q = absurd (omega arith)
 
-pub record Stands (job : Job) (s : State) : Type 0 where
+pub ended-without : (on : Setting) (s : State) (stop : Stop) → Ended on s stop → stop .code ≡ 27
+    → (s .next ≡ on .job .length) × (s .tally .entered ≡ false)
+ended-without on s stop (at-end c n f) q = absurd (omega arith)
+ended-without on s stop (at-magic c n) q = absurd (omega arith)
+ended-without on s stop (at-command l u) q = absurd (omega arith)
+ended-without on s stop (without-entry c n f) q = (n, f)
+
+-- the bytes that a command stores: of a write those behind its address
+abbrev pub rangeLength : Command → List ℕ → ℕ
+rangeLength Write c = dataLength c - 8
+rangeLength Fill c = fillCount c
+rangeLength Entry c = 0
+rangeLength Check c = 0
+
+-- c is a command whose whole range is RAM and reachable
+pub record WholeRange (on : Setting) (k : Command) (c : List ℕ) : Type 0 where
+  pub is : named (commandId c) ≡ Known k
+  pub in-ram : ram (on .map) (address c) (rangeLength k c) ≡ true
+  pub in-reach : reachable (limit (on .job .mode)) (address c) (rangeLength k c) ≡ true
+
+-- what each phase says of the bytes gathered and of the bytes to come
+abbrev pub Meant : Setting → Phase → State → Type 0
+Meant on Magic s =
+    (s .next ≡ length (s .gathered)) × (s .next < 8) × (8 ≤ on .job .length) × (s .tally .stored ≡ 0)
+Meant on Header s =
+    (s .next ≡ s .start + length (s .gathered)) × (length (s .gathered) < 16) × (s .start + 16 ≤ on .job .length)
+-- the header gathered names k, with a data length that is right for k and fits the file
+Meant on (Parameters k) s =
+    (s .next ≡ s .start + length (s .gathered)) × (16 ≤ length (s .gathered))
+    × (length (s .gathered) < 16 + judgedBytes k)
+    × (wrongLength k (dataLength (s .gathered)) ≡ false)
+    × (s .start + 16 + dataLength (s .gathered) ≤ on .job .length)
+    × (named (commandId (s .gathered)) ≡ Known k)
+-- the last `left` bytes of the write gathered, whose whole range was judged
+Meant on (Storing a left) s =
+    (0 < left) × (s .next + left ≤ on .job .length) × (ram (on .map) a left ≡ true)
+    × (a + left ≤ limit (on .job .mode)) × WholeRange on Write (s .gathered)
+    × (address (s .gathered) ≤ a) × (a + left ≡ address (s .gathered) + rangeLength Write (s .gathered))
+Meant on (Skipping left) s =
+    (0 < left) × (s .next + left ≤ on .job .length) × (named (commandId (s .gathered)) ≡ Skipped)
+Meant on (Stopped stop) s = Ended on s stop
+
+pub record Stands (on : Setting) (s : State) : Type 0 where
   pub order : s .start ≤ s .next
-  pub inside : s .next ≤ job .fileLength
+  pub inside : s .next ≤ on .job .length
   pub counted : s .tally .commands ≤ s .next
-  pub meant : Meant job (s .phase) s
+  pub enters : s .tally .entry ≤ limit (on .job .mode)
+  pub meant : Meant on (s .phase) s
 
 -- the stores are bytes along one range that is RAM and reachable
-abbrev pub Along : Board → List Store → Type 0
-Along unit xs =
-    (a : ℕ) × (bs : List ℕ) × (xs ≡ storesFrom a bs) × (ram (unit .map) a (length bs) ≡ true)
-    × (a + length bs ≤ unit .reach)
+abbrev pub Along : Setting → List Store → Type 0
+Along on xs =
+    (a : ℕ) × (bs : List ℕ) × (xs ≡ storesFrom a bs) × (ram (on .map) a (length bs) ≡ true)
+    × (a + length bs ≤ limit (on .job .mode))
 
--- a turn after which `at` is the offset of the next byte, where the counts were those of `before`
-pub record Proper (job : Job) (at : ℕ) (before : Tally) (t : Turn) : Type 0 where
+-- the effect of a byte after which `at` is the offset of the next one, where the counts were those of `before`
+pub record Proper (on : Setting) (at : ℕ) (before : Tally) (t : Effect) : Type 0 where
   pub next : t .state .next ≡ at
   pub order : t .state .start ≤ t .state .next
   pub commands : t .state .tally .commands ≤ suc (before .commands)
   pub stored : t .state .tally .stored ≡ before .stored + length (t .stores)
-  pub along : Along (job .unit) (t .stores)
-  pub meant : Meant job (t .state .phase) (t .state)
+  pub enters : before .entry ≤ limit (on .job .mode) → t .state .tally .entry ≤ limit (on .job .mode)
+  pub along : Along on (t .stores)
+  pub meant : Meant on (t .state .phase) (t .state)
 
--- ---- tests
-
-pub cond-cases : {A : Type 0} (P : A → Type 0) (b : Bool) (x y : A) → (b ≡ true → P x) → (b ≡ false → P y) → P (cond b x y)
-cond-cases P true x y f g = f refl
-cond-cases P false x y f g = g refl
-
-along-none : (unit : Board) → Along unit []
+along-none : (on : Setting) → Along on []
 unfolding storesFrom
-along-none unit = (0, [], refl, ram-empty (unit .map) 0, omega arith)
+along-none on = (0, [], refl, ram-empty (on .map) 0, omega arith)
 
--- a turn with no stores
-module _ (job : Job) (u : State) (order : u .start ≤ u .next) where
-  turned-proper : (p : Phase) → Meant job p (turnedTo p u) → Proper job (u .next) (u .tally) (still (turnedTo p u))
-  turned-proper p m =
+-- an effect with no stores
+module _ (on : Setting) (u : State) (order : u .start ≤ u .next) where
+  quiet-proper : (p : Phase) → Meant on p (inPhase p u) → Proper on (u .next) (u .tally) (noStores (inPhase p u))
+  quiet-proper p m =
       record {
         next = refl;
         order = order;
         commands = omega arith;
         stored = sym (add-zero (u .tally .stored));
-        along = along-none (job .unit);
+        enters = λ h. h;
+        along = along-none on;
         meant = m;
       }
 
-  -- a command is judged by rules whose numbers are 17 to 27
-  judged-proper : (rs : List Rule) (t : Turn) → T (numbered rs) → EachCode (λ (c : ℕ). ¬ (c ≡ 0) → (17 ≤ c) × (c ≤ 27)) rs
-      → (AllHold rs → Proper job (u .next) (u .tally) t) → Proper job (u .next) (u .tally) (judged (firstBroken rs) u t)
-  judged-proper rs t n among f =
-      cond-cases (Proper job (u .next) (u .tally)) (eqb (firstBroken rs) 0) _ _ (λ e. f (zero-all-hold rs n (eqb-true (firstBroken rs) 0 e)))
-      (λ e. turned-proper (Stopped (firstBroken rs) (u .start))
-      (let c = first-broken-has (λ (c : ℕ). ¬ (c ≡ 0) → (17 ≤ c) × (c ≤ 27)) rs (λ z. absurd (z refl)) among (eqb-false (firstBroken rs) 0 e) in
-      at-command (c .0) (c .1)))
+  refused-proper : (code : ℕ) → 17 ≤ code → code ≤ 26 → Proper on (u .next) (u .tally) (noStores (stopped code (u .start) u))
+  refused-proper code l h = quiet-proper (Stopped (stopAt code (u .start))) (at-command l h)
 
-module _ (job : Job) (u s : State) (xs : List Store) (next : s .next ≡ u .next) (order : s .start ≤ s .next)
-    (inside : s .next ≤ job .fileLength) (stored : s .tally .stored ≡ u .tally .stored + length xs)
-    (along : Along (job .unit) xs) where
-  begins-proper : s .tally .commands ≤ suc (u .tally .commands) → Proper job (u .next) (u .tally) (record { state = begins job s; stores = xs })
-  unfolding begins
+  judged-proper : (rs : List Rule) (t : Effect) → CommandRules rs → (AllHold rs → Proper on (u .next) (u .tally) t)
+      → Proper on (u .next) (u .tally) (judged (firstBroken rs) u t)
+  judged-proper rs t r f = judged-cases (Proper on (u .next) (u .tally)) rs u t r refused-proper f
+
+module _ (on : Setting) (u s : State) (xs : List Store) (next : s .next ≡ u .next) (order : s .start ≤ s .next)
+    (inside : s .next ≤ on .job .length) (stored : s .tally .stored ≡ u .tally .stored + length xs)
+    (enters : u .tally .entry ≤ limit (on .job .mode) → s .tally .entry ≤ limit (on .job .mode)) (along : Along on xs) where
+  begins-proper : s .tally .commands ≤ suc (u .tally .commands)
+      → Proper on (u .next) (u .tally) (record { state = commandBegins (on .job .length) s; stores = xs })
   begins-proper commands =
-      cond-cases (λ (t : State). Proper job (u .next) (u .tally) (record { state = t; stores = xs })) (eqb (s .next) (job .fileLength)) _ _
-      (λ e. cond-cases (λ (t : State). Proper job (u .next) (u .tally) (record { state = t; stores = xs })) (s .tally .entered) _ _
-      (λ f. stops 0 0 (at-end refl (eqb-true (s .next) (job .fileLength) e) f))
-      (λ f. stops 27 (job .fileLength) (at-command (lit≤ tt) (lit≤ tt))))
-      (λ e. cond-cases (λ (t : State). Proper job (u .next) (u .tally) (record { state = t; stores = xs })) (ltb (job .fileLength - s .next) 16) _ _
-      (λ f. stops 17 (s .next) (at-command (lit≤ tt) (lit≤ tt)))
-      (λ f. record {
+      begins-cases P (on .job .length) s (λ e f. stops 0 0 (at-end refl e f)) (λ e f. stops 27 (on .job .length) (without-entry refl e f))
+      (λ e. stops 17 (s .next) (at-command (lit≤ tt) (lit≤ tt)))
+      (λ l. record {
         next = next;
         order = omega arith;
         commands = commands;
         stored = stored;
+        enters = enters;
         along = along;
-        meant = (omega arith, lit≤ tt, omega (arith, ltb-false (job .fileLength - s .next) 16 f));
-      }))
+        meant = (omega arith, lit≤ tt, omega arith);
+      })
     where
-      stops : (code place : ℕ) → Ended job (stopped code place s) code → Proper job (u .next) (u .tally) (record { state = stopped code place s; stores = xs })
+      P : State → Type 0
+      P t = Proper on (u .next) (u .tally) (record { state = t; stores = xs })
+
+      stops : (code place : ℕ) → Ended on (stopped code place s) (stopAt code place) → P (stopped code place s)
       stops code place m =
-          record { next = next; order = order; commands = commands; stored = stored; along = along; meant = m }
+          record { next = next; order = order; commands = commands; stored = stored; enters = enters; along = along; meant = m }
 
 -- a command's last byte has been used
-module _ (job : Job) (u : State) (order : u .start ≤ u .next) (inside : u .next ≤ job .fileLength) where
+module _ (on : Setting) (u : State) (order : u .start ≤ u .next) (inside : u .next ≤ on .job .length) where
   finished-with : (s : State) (xs : List Store) → s .next ≡ u .next → s .start ≡ u .start → s .tally .commands ≡ u .tally .commands
-      → s .tally .stored ≡ u .tally .stored + length xs → Along (job .unit) xs → Proper job (u .next) (u .tally) (record { state = finished job s; stores = xs })
+      → s .tally .stored ≡ u .tally .stored + length xs
+      → (u .tally .entry ≤ limit (on .job .mode) → s .tally .entry ≤ limit (on .job .mode)) → Along on xs
+      → Proper on (u .next) (u .tally) (record { state = finished (on .job .length) s; stores = xs })
   unfolding finished
-  finished-with s xs next start commands stored along =
-      begins-proper job u (tallied (withCommand (s .tally)) s) xs next (omega arith) (omega arith) stored along (omega arith)
+  finished-with s xs next start commands stored enters along =
+      begins-proper on u (tallied (withCommand (s .tally)) s) xs next (omega arith) (omega arith) stored enters along (omega arith)
 
-  finished-proper : Proper job (u .next) (u .tally) (still (finished job u))
-  finished-proper = finished-with u [] refl refl refl (sym (add-zero (u .tally .stored))) (along-none (job .unit))
+  finished-proper : Proper on (u .next) (u .tally) (noStores (finished (on .job .length) u))
+  finished-proper = finished-with u [] refl refl refl (sym (add-zero (u .tally .stored))) (λ h. h) (along-none on)
 
 -- ---- the magic and the header
 
-module _ (job : Job) (u : State) (order : u .start ≤ u .next) where
-  magic-proper : u .next ≤ job .fileLength → u .tally .stored ≡ 0 → Proper job (u .next) (u .tally) (still (magicRead job u))
-  unfolding magicRead
+module _ (on : Setting) (u : State) (order : u .start ≤ u .next) where
+  magic-proper : u .next ≤ on .job .length → u .tally .stored ≡ 0 → Proper on (u .next) (u .tally) (magicRead (on .job .length) u)
   magic-proper inside none =
-      cond-cases (λ (t : State). Proper job (u .next) (u .tally) (still t)) (eqb (little (u .held)) 0x8adc5fa2448cb65e) _ _
-      (λ e. begins-proper job u u [] refl order inside (sym (add-zero (u .tally .stored))) (along-none (job .unit)) (omega arith))
-      (λ e. turned-proper job u order (Stopped 16 0) (at-magic refl none))
+      magic-cases (Proper on (u .next) (u .tally)) (on .job .length) u
+      (λ e. begins-proper on u u [] refl order inside (sym (add-zero (u .tally .stored))) (λ h. h) (along-none on) (omega arith))
+      (λ e. quiet-proper on u order (Stopped (stopAt 16 0)) (at-magic refl none))
 
-  module _ (next : u .next ≡ u .start + length (u .held)) (whole : length (u .held) ≡ 16) where
-    awaits : (k : Command) → commandOf (u .held) ≡ k → 0 < judgedBytes k → wrongLength k (dataLength (u .held)) ≡ false
-        → u .next + dataLength (u .held) ≤ job .fileLength → Proper job (u .next) (u .tally) (still (turnedTo Parameters u))
-    awaits k q judged right fits =
-        turned-proper job u order Parameters
-        (next, omega arith, omega (arith, ap judgedBytes q), rw q right, omega arith)
+  module _ (next : u .next ≡ u .start + length (u .gathered)) (all : length (u .gathered) ≡ 16) where
+    judged-some : (k : Command) → 0 < judgedBytes k
+    judged-some Write = lit≤ tt
+    judged-some Fill = lit≤ tt
+    judged-some Entry = lit≤ tt
+    judged-some Check = lit≤ tt
 
-    passed-proper : (k : Command) (n : ℕ) → commandOf (u .held) ≡ k → dataLength (u .held) ≡ n → unknown k ≡ false
-        → wrongLength k n ≡ false → u .next + n ≤ job .fileLength → Proper job (u .next) (u .tally) (still (passed job k n u))
-    unfolding passed
-    passed-proper Write n q d known right fits = awaits Write q (lit≤ tt) (rw d right) (rw d fits)
-    passed-proper Fill n q d known right fits = awaits Fill q (lit≤ tt) (rw d right) (rw d fits)
-    passed-proper Entry n q d known right fits = awaits Entry q (lit≤ tt) (rw d right) (rw d fits)
-    passed-proper Check n q d known right fits = awaits Check q (lit≤ tt) (rw d right) (rw d fits)
-    passed-proper Skip n q d known right fits =
-        cond-cases (λ (t : State). Proper job (u .next) (u .tally) (still t)) (eqb n 0) _ _
-        (λ e. finished-proper job u order (omega arith))
-        (λ e. turned-proper job u order (Skipping n) (omega (arith, eqb-false n 0 e), fits, q))
-    passed-proper Unknown n q d known right fits = absurd (true≢false known)
+    says-proper : (x : Named) (n : ℕ) → named (commandId (u .gathered)) ≡ x → dataLength (u .gathered) ≡ n → u .next ≤ on .job .length
+        → Proper on (u .next) (u .tally) (headerSays x (on .job .length) n u)
+    unfolding headerSays
+    says-proper (Known k) n q d inside =
+        judged-proper on u order (lengthRules k n (on .job .length - u .next)) _ (tt, tt)
+        (λ h. let fits = ltb-false (on .job .length - u .next) n (h .1 .0) in
+        quiet-proper on u order (Parameters k) (next, omega arith, omega (arith, judged-some k), rw d (h .0), omega arith, q))
+    says-proper Skipped n q d inside =
+        judged-proper on u order (dataRules n (on .job .length - u .next)) _ (tt, tt)
+        (λ h. let fits = ltb-false (on .job .length - u .next) n (h .0) in
+        cond-cases (λ (t : State). Proper on (u .next) (u .tally) (noStores t)) (eqb n 0) _ _
+        (λ e. finished-proper on u order inside)
+        (λ e. quiet-proper on u order (Skipping n) (omega (arith, eqb-false n 0 e), omega arith, q)))
+    says-proper Unknown n q d inside = refused-proper on u order 18 (lit≤ tt) (lit≤ tt)
 
-    header-proper : u .next ≤ job .fileLength → Proper job (u .next) (u .tally) (headerRead job u)
+    header-proper : u .next ≤ on .job .length → Proper on (u .next) (u .tally) (headerRead (on .job .length) u)
     unfolding headerRead
-    header-proper inside =
-        judged-proper job u order
-        (headerRules (commandOf (u .held)) (dataLength (u .held)) (job .fileLength - u .next)) _ tt
-        (λ z. (lit≤ tt, lit≤ tt), (λ z. (lit≤ tt, lit≤ tt), (λ z. (lit≤ tt, lit≤ tt), tt)))
-        (λ h. passed-proper (commandOf (u .held)) (dataLength (u .held)) refl refl (h .0) (h .1 .0)
-        (omega (arith, ltb-false (job .fileLength - u .next) (dataLength (u .held)) (h .1 .1 .0))))
+    header-proper = says-proper (named (commandId (u .gathered))) (dataLength (u .gathered)) refl refl
 
 -- ---- parameters
 
--- the header says the same, however many bytes are held behind it
-pub header-kept : (h xs : List ℕ) → 16 ≤ length h → (commandOf (h ++ xs) ≡ commandOf h) × (dataLength (h ++ xs) ≡ dataLength h)
+-- the header says the same, however many bytes are gathered behind it
+pub header-kept : (h xs : List ℕ) → 16 ≤ length h → (commandId (h ++ xs) ≡ commandId h) × (dataLength (h ++ xs) ≡ dataLength h)
 header-kept h xs l = (
-  ap (λ (c : List ℕ). command (little c)) (take-append-le 2 h xs (omega arith)),
+  ap little (take-append-le 2 h xs (omega arith)),
   ap little (ap (take 8) (drop-append-le 8 h xs (omega arith)) ∙ take-append-le 8 (drop 8 h) xs (rw length-drop (omega arith))),
 )
 
@@ -237,65 +315,64 @@ judged-in-data Write n e = ltb-false n 8 e
 judged-in-data Fill n e = omega (arith, eqb-true n 24 (not-false (eqb n 24) e))
 judged-in-data Entry n e = omega (arith, eqb-true n 8 (not-false (eqb n 8) e))
 judged-in-data Check n e = omega (arith, eqb-true n 88 (not-false (eqb n 88) e))
-judged-in-data Skip n e = omega arith
-judged-in-data Unknown n e = omega arith
 
 -- a range that breaks no rule
-pub range-holds : (unit : Board) (a n : ℕ) → AllHold (rangeRules unit a n) → (ram (unit .map) a n ≡ true) × (a + max n 1 ≤ unit .reach)
-range-holds unit a n h = (
-  not-false (ram (unit .map) a n) (h .1 .0),
-  leb-true (a + max n 1) (unit .reach) (not-false (reachable (unit .reach) a n) (h .0)),
-)
+pub range-holds : (map : List Region) (top a n : ℕ) → AllHold (rangeRules map top a n)
+    → (ram map a n ≡ true) × (reachable top a n ≡ true) × (a + max n 1 ≤ top)
+range-holds map top a n h =
+    let r = not-false (reachable top a n) (h .0) in
+    (not-false (ram map a n) (h .1 .0), r, leb-true (a + max n 1) top r)
 
-module _ (job : Job) (u : State) (order : u .start ≤ u .next) where
-  write-proper : commandOf (u .held) ≡ Write → u .next + (dataLength (u .held) - 8) ≤ job .fileLength → Proper job (u .next) (u .tally) (writeRead job u)
+module _ (on : Setting) (u : State) (order : u .start ≤ u .next) where
+  write-proper : named (commandId (u .gathered)) ≡ Known Write → u .next + (dataLength (u .gathered) - 8) ≤ on .job .length
+      → Proper on (u .next) (u .tally) (writeRead (on .job) (on .map) u)
   unfolding writeRead
   write-proper q fits =
-      let n = dataLength (u .held) - 8 in
-      judged-proper job u order (rangeRules (job .unit) (address (u .held)) n) _ tt
-      (λ z. (lit≤ tt, lit≤ tt), (λ z. (lit≤ tt, lit≤ tt), tt))
-      (λ h. cond-cases (λ (t : State). Proper job (u .next) (u .tally) (still t)) (eqb n 0) _ _
-      (λ e. finished-proper job u order (omega arith))
-      (λ e. let r = range-holds (job .unit) (address (u .held)) n h in
-      turned-proper job u order (Storing (address (u .held)) n) (omega (arith, eqb-false n 0 e), fits, r .0, omega (arith, r .1), q)))
+      let a = address (u .gathered) in
+      let n = dataLength (u .gathered) - 8 in
+      judged-proper on u order (rangeRules (on .map) (limit (on .job .mode)) a n) _ (tt, tt)
+      (λ h. let (r, l, top) = range-holds (on .map) (limit (on .job .mode)) a n h in
+      cond-cases (λ (t : State). Proper on (u .next) (u .tally) (noStores t)) (eqb n 0) _ _
+      (λ e. finished-proper on u order (omega arith))
+      (λ e. quiet-proper on u order (Storing a n)
+      (omega (arith, eqb-false n 0 e), fits, r, omega arith, record { is = q; in-ram = r; in-reach = l }, omega arith, refl)))
 
-  module _ (inside : u .next ≤ job .fileLength) where
-    fill-proper : Proper job (u .next) (u .tally) (fillRead job u)
+  module _ (inside : u .next ≤ on .job .length) where
+    fill-proper : Proper on (u .next) (u .tally) (fillRead (on .job) (on .map) u)
     unfolding fillRead
     fill-proper =
-        let n = fillCount (u .held) in
-        let bs = replicate n (pattern (u .held)) in
-        let a = address (u .held) in
-        judged-proper job u order (rangeRules (job .unit) a n) _ tt
-        (λ z. (lit≤ tt, lit≤ tt), (λ z. (lit≤ tt, lit≤ tt), tt))
-        (λ h. let r = range-holds (job .unit) a n h in
-        finished-with job u order inside (tallied (withStored n (u .tally)) u) (storesFrom a bs) refl refl refl
-        (ap (λ (k : ℕ). u .tally .stored + k) (sym (length-storesFrom a bs ∙ length-replicate n (pattern (u .held)))))
-        (a, bs, refl, rw length-replicate (r .0), rw length-replicate (omega (arith, r .1))))
+        let n = fillCount (u .gathered) in
+        let bs = replicate n (pattern (u .gathered)) in
+        let a = address (u .gathered) in
+        judged-proper on u order (rangeRules (on .map) (limit (on .job .mode)) a n) _ (tt, tt)
+        (λ h. let (r, l, top) = range-holds (on .map) (limit (on .job .mode)) a n h in
+        finished-with on u order inside (tallied (withStored n (u .tally)) u) (storesFrom a bs) refl refl refl
+        (ap (λ (k : ℕ). u .tally .stored + k) (sym (length-storesFrom a bs ∙ length-replicate n (pattern (u .gathered))))) (λ i. i)
+        (a, bs, refl, rw length-replicate r, rw length-replicate (omega arith)))
 
-    entry-proper : Proper job (u .next) (u .tally) (entryRead job u)
+    entry-proper : Proper on (u .next) (u .tally) (entryRead (on .job) u)
     unfolding entryRead
     entry-proper =
-        judged-proper job u order (entryRules (job .unit) (address (u .held))) _ tt (λ z. (lit≤ tt, lit≤ tt), tt)
-        (λ h. finished-with job u order inside (tallied (withEntry (address (u .held)) (u .tally)) u) [] refl refl refl
-        (sym (add-zero (u .tally .stored))) (along-none (job .unit)))
+        let a = address (u .gathered) in
+        judged-proper on u order (entryRules (limit (on .job .mode)) a) _ (tt, tt)
+        (λ h. let reached = leb-true (a + 1) (limit (on .job .mode)) (not-false (reachable (limit (on .job .mode)) a 1) (h .0)) in
+        finished-with on u order inside (tallied (withEntry a (u .tally)) u) [] refl refl refl
+        (sym (add-zero (u .tally .stored))) (λ i. omega arith) (along-none on))
 
-    check-proper : Proper job (u .next) (u .tally) (checkRead job u)
+    check-proper : Proper on (u .next) (u .tally) (checkRead (on .job .length) (on .table) u)
     unfolding checkRead
     check-proper =
-        judged-proper job u order (checkRules (job .unit) (u .held)) _ tt
-        (λ z. (lit≤ tt, lit≤ tt), (λ z. (lit≤ tt, lit≤ tt), (λ z. (lit≤ tt, lit≤ tt), (λ z. (lit≤ tt, lit≤ tt), (λ z. (lit≤ tt, lit≤ tt), tt)))))
-        (λ h. finished-proper job u order inside)
+        judged-proper on u order (checkRules (on .table) (u .gathered)) _ (tt, tt)
+        (λ h. finished-proper on u order inside)
 
-    parameters-proper : (k : Command) → commandOf (u .held) ≡ k → 0 < judgedBytes k → u .next + (dataLength (u .held) - judgedBytes k) ≤ job .fileLength
-        → Proper job (u .next) (u .tally) (parametersRead job k u)
+    parameters-proper : (k : Command) → named (commandId (u .gathered)) ≡ Known k
+        → u .next + (dataLength (u .gathered) - judgedBytes k) ≤ on .job .length
+        → Proper on (u .next) (u .tally) (parametersRead k on u)
     unfolding parametersRead
-    parameters-proper Write q h fits = write-proper q fits
-    parameters-proper Fill q h fits = fill-proper
-    parameters-proper Entry q h fits = entry-proper
-    parameters-proper Check q h fits = check-proper
-    parameters-proper Skip q h fits = absurd (omega arith)
-    parameters-proper Unknown q h fits = absurd (omega arith)
+    parameters-proper Write q fits = write-proper q fits
+    parameters-proper Fill q fits = fill-proper
+    parameters-proper Entry q fits = entry-proper
+    parameters-proper Check q fits = check-proper
 
 -- ---- one byte
 
@@ -318,97 +395,101 @@ ram-next rs a n h r =
 abbrev pub Running : Phase → Type 0
 Running Magic = Unit {0}
 Running Header = Unit {0}
-Running Parameters = Unit {0}
+Running (Parameters k) = Unit {0}
 Running (Storing a left) = Unit {0}
 Running (Skipping left) = Unit {0}
-Running (Stopped code place) = ⊥
+Running (Stopped stop) = ⊥
 
-module _ (job : Job) (s : State) (b : ℕ) (order : s .start ≤ s .next) where
-  abbrev after : Turn → Type 0
-  after = Proper job (suc (s .next)) (s .tally)
+module _ (on : Setting) (s : State) (b : ℕ) (order : s .start ≤ s .next) where
+  abbrev after : Effect → Type 0
+  after = Proper on (suc (s .next)) (s .tally)
 
-  longer : length (s .held ++ (b ∷ [])) ≡ suc (length (s .held))
-  longer = length-append (s .held) (b ∷ []) ∙ omega arith
+  longer : length (s .gathered ++ (b ∷ [])) ≡ suc (length (s .gathered))
+  longer = length-append (s .gathered) (b ∷ []) ∙ omega arith
 
-  react-proper : (p : Phase) → s .phase ≡ p → Running p → Meant job p s → after (react p job s b)
+  react-proper : (p : Phase) → s .phase ≡ p → Running p → Meant on p s → after (react p on s b)
   unfolding react storesFrom
   react-proper Magic e r m =
-      cond-cases after (ltb (length (s .held ++ (b ∷ []))) 8) _ _
-      (λ f. turned-proper job (kept b s) (omega arith) (s .phase)
-      (rw e (omega (arith, longer), omega (arith, longer, ltb-true (length (s .held ++ (b ∷ []))) 8 f), m .2, m .3)))
-      (λ f. magic-proper job (kept b s) (omega arith) (omega arith) (m .3))
+      cond-cases after (ltb (length (s .gathered ++ (b ∷ []))) 8) _ _
+      (λ f. quiet-proper on (kept b s) (omega arith) (s .phase)
+      (rw e (omega (arith, longer), omega (arith, longer, ltb-true (length (s .gathered ++ (b ∷ []))) 8 f), m .2, m .3)))
+      (λ f. magic-proper on (kept b s) (omega arith) (omega arith) (m .3))
   react-proper Header e r m =
-      cond-cases after (ltb (length (s .held ++ (b ∷ []))) 16) _ _
-      (λ f. turned-proper job (kept b s) (omega arith) (s .phase)
-      (rw e (omega (arith, longer), ltb-true (length (s .held ++ (b ∷ []))) 16 f, m .2)))
-      (λ f. header-proper job (kept b s) (omega arith) (omega (arith, longer))
-      (omega (arith, longer, ltb-false (length (s .held ++ (b ∷ []))) 16 f)) (omega arith))
-  react-proper Parameters e r m =
-      let same = header-kept (s .held) (b ∷ []) (m .1) in
-      let k = commandOf (s .held ++ (b ∷ [])) in
-      let right : wrongLength k (dataLength (s .held ++ (b ∷ []))) ≡ false = rw (same .0, same .1) (m .3) in
-      let room : s .start + 16 + dataLength (s .held ++ (b ∷ [])) ≤ job .fileLength = rw (same .1) (m .4) in
-      let few : length (s .held) < 16 + judgedBytes k = omega (arith, m .2, ap judgedBytes (same .0)) in
-      cond-cases after (ltb (length (s .held ++ (b ∷ []))) (16 + judgedBytes k)) _ _
-      (λ f. turned-proper job (kept b s) (omega arith) (s .phase)
-      (rw e (omega (arith, longer), omega (arith, longer), ltb-true (length (s .held ++ (b ∷ []))) (16 + judgedBytes k) f, right, room)))
-      (λ f. parameters-proper job (kept b s) (omega arith)
-      (omega (arith, longer, judged-in-data k (dataLength (s .held ++ (b ∷ []))) right)) k refl (omega arith)
-      (omega (arith, longer, ltb-false (length (s .held ++ (b ∷ []))) (16 + judgedBytes k) f, judged-in-data k (dataLength (s .held ++ (b ∷ []))) right)))
+      cond-cases after (ltb (length (s .gathered ++ (b ∷ []))) 16) _ _
+      (λ f. quiet-proper on (kept b s) (omega arith) (s .phase)
+      (rw e (omega (arith, longer), ltb-true (length (s .gathered ++ (b ∷ []))) 16 f, m .2)))
+      (λ f. header-proper on (kept b s) (omega arith) (omega (arith, longer))
+      (omega (arith, longer, ltb-false (length (s .gathered ++ (b ∷ []))) 16 f)) (omega arith))
+  react-proper (Parameters k) e r m =
+      let g = s .gathered ++ (b ∷ []) in
+      let same = header-kept (s .gathered) (b ∷ []) (m .1) in
+      let right : wrongLength k (dataLength g) ≡ false = rw (same .1) (m .3) in
+      let room : s .start + 16 + dataLength g ≤ on .job .length = rw (same .1) (m .4) in
+      let names : named (commandId g) ≡ Known k = ap named (same .0) ∙ m .5 in
+      let data-judged = judged-in-data k (dataLength g) right in
+      cond-cases after (ltb (length g) (16 + judgedBytes k)) _ _
+      (λ f. quiet-proper on (kept b s) (omega arith) (s .phase)
+      (rw e (omega (arith, longer), omega (arith, longer), ltb-true (length g) (16 + judgedBytes k) f, right, room, names)))
+      (λ f. parameters-proper on (kept b s) (omega arith) (omega (arith, longer)) k names
+      (omega (arith, longer, ltb-false (length g) (16 + judgedBytes k) f)))
   react-proper (Storing a left) e r m =
       let u = used (tallied (withStored 1 (s .tally)) s) in
       let x : Store = record { address = a; byte = b } in
-      let along : Along (job .unit) (x ∷ []) =
-      (a, b ∷ [], refl, le-leb (a + 1) (uncovered (job .unit .map) a) (omega (arith, leb-true (a + left) (uncovered (job .unit .map) a) (m .2))), omega arith) in
+      let one : ram (on .map) a 1 ≡ true =
+      le-leb (a + 1) (uncovered (on .map) a) (omega (arith, leb-true (a + left) (uncovered (on .map) a) (m .2))) in
+      let along : Along on (x ∷ []) = (a, b ∷ [], refl, one, omega arith) in
       cond-cases (λ (t : State). after (record { state = t; stores = x ∷ [] })) (eqb left 1) _ _
-      (λ f. finished-with job (used s) (omega arith) (omega arith) u (x ∷ []) refl refl refl refl along)
-      (λ f. record {
+      (λ f. finished-with on (used s) (omega arith) (omega arith) u (x ∷ []) refl refl refl refl (λ i. i) along)
+      (λ f. let more = eqb-false left 1 f in
+      record {
         next = refl;
         order = omega arith;
         commands = omega arith;
         stored = refl;
+        enters = λ i. i;
         along = along;
-        meant = (omega (arith, eqb-false left 1 f), omega arith, ram-next (job .unit .map) a left (m .0) (m .2), omega arith, m .4);
+        meant = (omega arith, omega arith, ram-next (on .map) a left (m .0) (m .2), omega arith, m .4, omega arith, omega arith);
       })
   react-proper (Skipping left) e r m =
-      cond-cases (λ (t : State). after (still t)) (eqb left 1) _ _
-      (λ f. finished-proper job (used s) (omega arith) (omega arith))
-      (λ f. turned-proper job (used s) (omega arith) (Skipping (pred left)) (omega (arith, eqb-false left 1 f), omega arith, m .2))
-  react-proper (Stopped code place) e r m = absurd r
+      cond-cases (λ (t : State). after (noStores t)) (eqb left 1) _ _
+      (λ f. finished-proper on (used s) (omega arith) (omega arith))
+      (λ f. quiet-proper on (used s) (omega arith) (Skipping (pred left)) (omega (arith, eqb-false left 1 f), omega arith, m .2))
+  react-proper (Stopped stop) e r m = absurd r
 
 -- ---- all bytes
 
-pub running-or-stopped : (p : Phase) → Running p ⊎ ((code : ℕ) × (place : ℕ) × (p ≡ Stopped code place))
+pub running-or-stopped : (p : Phase) → Running p ⊎ ((stop : Stop) × (p ≡ Stopped stop))
 running-or-stopped Magic = inl tt
 running-or-stopped Header = inl tt
-running-or-stopped Parameters = inl tt
+running-or-stopped (Parameters k) = inl tt
 running-or-stopped (Storing a left) = inl tt
 running-or-stopped (Skipping left) = inl tt
-running-or-stopped (Stopped code place) = inr (code, place, refl)
+running-or-stopped (Stopped stop) = inr (stop, refl)
 
 -- a run that has not stopped has bytes of the file to come
-running-inside : (job : Job) (s : State) (p : Phase) → Running p → Meant job p s → s .next < job .fileLength
-running-inside job s Magic r m = omega arith
-running-inside job s Header r m = omega arith
-running-inside job s Parameters r m =
-    omega (arith, judged-in-data (commandOf (s .held)) (dataLength (s .held)) (m .3))
-running-inside job s (Storing a left) r m = omega arith
-running-inside job s (Skipping left) r m = omega arith
-running-inside job s (Stopped code place) r m = absurd r
+running-inside : (on : Setting) (s : State) (p : Phase) → Running p → Meant on p s → s .next < on .job .length
+running-inside on s Magic r m = omega arith
+running-inside on s Header r m = omega arith
+running-inside on s (Parameters k) r m = omega (arith, judged-in-data k (dataLength (s .gathered)) (m .3))
+running-inside on s (Storing a left) r m = omega arith
+running-inside on s (Skipping left) r m = omega arith
+running-inside on s (Stopped stop) r m = absurd r
 
-pub react-stands : (job : Job) (s : State) (b : ℕ) → Stands job s → Running (s .phase) → Proper job (suc (s .next)) (s .tally) (step job s b)
-react-stands job s b h r = react-proper job s b (h .order) (s .phase) refl r (h .meant)
+pub react-stands : (on : Setting) (s : State) (b : ℕ) → Stands on s → Running (s .phase)
+    → Proper on (suc (s .next)) (s .tally) (step on s b)
+react-stands on s b h r = react-proper on s b (h .order) (s .phase) refl r (h .meant)
 
-pub stands-below : (job : Job) (s : State) → Stands job s → Running (s .phase) → s .next < job .fileLength
-stands-below job s h r = running-inside job s (s .phase) r (h .meant)
+pub stands-below : (on : Setting) (s : State) → Stands on s → Running (s .phase) → s .next < on .job .length
+stands-below on s h r = running-inside on s (s .phase) r (h .meant)
 
-pub begun-stands : (job : Job) → Stands job (begun job)
-begun-stands job =
+pub begun-stands : (on : Setting) → Stands on (begun (on .job .length))
+begun-stands on =
     record {
       order = omega arith;
       inside = omega arith;
       counted = omega arith;
+      enters = omega arith;
       meant =
-          cond-cases (λ (p : Phase). Meant job p (begun job)) (ltb (job .fileLength) 8) _ _ (λ e. at-magic refl refl)
-          (λ e. (refl, lit≤ tt, ltb-false (job .fileLength) 8 e, refl));
+          cond-cases (λ (p : Phase). Meant on p (begun (on .job .length))) (ltb (on .job .length) 8) _ _ (λ e. at-magic refl refl)
+          (λ e. (refl, lit≤ tt, ltb-false (on .job .length) 8 e, refl));
     }

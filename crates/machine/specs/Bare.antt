@@ -1,35 +1,48 @@
--- Running bare: a command file without SBS, with map, table, mode and memory ("The four jobs").
-use mathlib.Core.Bool.{cond}
+-- Running bare: a command file without SBS, with map, table, mode and memory.
 use mathlib.Core.List.{List, _++_}
 use Prim.Native.Nat.{ℕ}
-use lib.Dec.{eqb}
 use lib.ListN.{length}
-use Rattle.answers.specs.Answers.{Outcome, answered, refused}
+use Rattle.answers.specs.Answers.{Outcome, answered, answerAfter, writtenAfter, stopAt}
 use Rattle.answers.specs.Rules.{Rule, firstBroken, sizeRules}
-use Rattle.board.specs.Board.{boardOf}
+use Rattle.answers.specs.declared.Answer.{Answer}
 use Rattle.board.specs.Cpuid.{tableRules}
-use Rattle.board.specs.Map.{mapRules, modeRules, regions}
-use Rattle.machine.specs.Machine.{Job, State, begun, run, trace, answerOr}
+use Rattle.board.specs.Map.{mapRules}
+use Rattle.board.specs.Reach.{modeRules}
+use Rattle.machine.specs.Machine.{Setting, State, Store, settingOf, begun, run, trace, halted, stopOr, answerOf}
 use Rattle.machine.specs.Memory.{applied}
 
--- a bare run gives 1, 2, 3 in this order before it looks at the file
-abbrev pub bareRules : List ℕ → List ℕ → List ℕ → ℕ → ℕ → List Rule
-bareRules file map table mode memory =
-    modeRules mode ++ sizeRules (length file) ++ mapRules map memory ++ tableRules table
+-- what a bare run is given to read
+pub record Bare : Type 0 where
+  pub file : List ℕ
+  pub map : List ℕ
+  pub table : List ℕ
+  pub mode : ℕ
 
-abbrev pub jobOf : ℕ → List ℕ → List ℕ → ℕ → Job
-jobOf fileLength map table mode = record { unit = boardOf map table mode; fileLength = fileLength }
+-- 1, 2, 3 in this order, before the file is looked at, where so many bytes of memory are lent
+abbrev pub bareRules : Bare → ℕ → List Rule
+bareRules b memory =
+    modeRules (b .mode) ++ sizeRules (length (b .file)) ++ mapRules (b .map) memory ++ tableRules (b .table)
+
+abbrev pub bareSetting : Bare → Setting
+bareSetting b = settingOf (record { length = length (b .file); mode = b .mode }) (b .map) (b .table)
 
 -- in a bare run every byte counts as proved
-abbrev pub ranBare : Job → List ℕ → State
-ranBare job file = run job (begun job) file
+abbrev pub bareEnd : Bare → State
+bareEnd b = run (bareSetting b) (begun (length (b .file))) (b .file)
 
--- what a bare run returns, and leaves in the answer record `held` and in memory; the whole file always stops the machine
-unfoldable pub runBare : List ℕ → List ℕ → List ℕ → ℕ → List ℕ → List ℕ → Outcome
-runBare file map table mode memory held =
-    let code = firstBroken (bareRules file map table mode (length memory)) in
-    let job = jobOf (length file) map table mode in
-    let end = ranBare job file in
-    cond (eqb code 0)
-    (answered held (answerOr (end .phase) 0 0 end) memory (applied (regions map) memory (trace job (begun job) file)))
-    (answered held (refused code) memory memory)
+-- what the call answers, and the stores that it makes. The whole file always stops the machine; a run that it did not
+-- stop would have no entry, 27.
+abbrev pub bareAnswer : Bare → ℕ → Answer
+bareAnswer b memory =
+    answerAfter (firstBroken (bareRules b memory))
+    (answerOf (stopOr (stopAt 27 (length (b .file))) (halted (bareEnd b .phase))) (bareEnd b .tally))
+
+abbrev pub bareStores : Bare → ℕ → List Store
+bareStores b memory =
+    writtenAfter (firstBroken (bareRules b memory)) (trace (bareSetting b) (begun (length (b .file))) (b .file))
+
+-- what a bare run returns, and leaves in the answer record, which held `old`, and in memory
+unfoldable pub runBare : Bare → List ℕ → List ℕ → Outcome
+runBare b memory old =
+    answered old (bareAnswer b (length memory)) memory
+    (applied (bareSetting b .map) memory (bareStores b (length memory)))

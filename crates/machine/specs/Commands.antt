@@ -1,31 +1,34 @@
--- The commands: their IDs, their fields, and the rules that each is judged by ("The commands").
+-- The commands: their IDs, their fields, and the rules that each is judged by.
 use mathlib.Core.Bool.{Bool, true, false, not, cond}
-use mathlib.Core.List.{List, [], _∷_, _++_}
-use Prim.Native.Nat.{ℕ, _+_, _-_}
+use mathlib.Core.List.{List, [], _∷_}
+use Prim.Native.Nat.{ℕ}
 use lib.Bits.{bitAnd}
 use lib.Dec.{eqb, leb, ltb}
 use lib.ListN.{length}
 use Rattle.octets.specs.Numbers.{little}
 use Rattle.octets.specs.Parts.{part}
 use Rattle.answers.specs.Rules.{Rule, rule}
-use Rattle.board.specs.Board.{Board}
-use Rattle.board.specs.Map.{ram, reachable}
-use Rattle.board.specs.Cpuid.{lookup}
+use Rattle.board.specs.Cpuid.{Leaf, lookup}
+use Rattle.board.specs.Map.{Region, ram}
+use Rattle.board.specs.Reach.{reachable}
 use Rattle.board.specs.declared.Found.{Found}
 use Rattle.board.specs.declared.Found.the-variants.{Word, Nothing}
 use Rattle.machine.specs.declared.Command.{Command}
-use Rattle.machine.specs.declared.Command.the-variants.{Write, Fill, Entry, Check, Skip, Unknown}
+use Rattle.machine.specs.declared.Command.the-variants.{Write, Fill, Entry, Check}
+use Rattle.machine.specs.declared.Named.{Named}
+use Rattle.machine.specs.declared.Named.the-variants.{Known, Skipped, Unknown}
 
--- the IDs are those of table 1
-abbrev pub command : ℕ → Command
-command id =
-    cond (eqb id 0) Write
-    (cond (eqb id 1) Fill
-    (cond (eqb id 2) Entry (cond (eqb id 3) Check (cond (ltb id 60000) Unknown (cond (leb id 65535) Skip Unknown)))))
+-- what an ID names: the IDs are those of table 1
+abbrev pub named : ℕ → Named
+named id =
+    cond (eqb id 0) (Known Write)
+    (cond (eqb id 1) (Known Fill)
+    (cond (eqb id 2) (Known Entry)
+    (cond (eqb id 3) (Known Check) (cond (ltb id 60000) Unknown (cond (leb id 65535) Skipped Unknown)))))
 
 -- A command's bytes c, from its first one on. Its 16-byte header: ID 2, reserved 6, data length 8; then its data.
-abbrev pub commandOf : List ℕ → Command
-commandOf c = command (little (part c 0 2))
+abbrev pub commandId : List ℕ → ℕ
+commandId c = little (part c 0 2)
 
 abbrev pub dataLength : List ℕ → ℕ
 dataLength c = little (part c 8 8)
@@ -65,38 +68,29 @@ judgedBytes Write = 8
 judgedBytes Fill = 24
 judgedBytes Entry = 8
 judgedBytes Check = 88
-judgedBytes Skip = 0
-judgedBytes Unknown = 0
 
--- 18: the ID is not known
-abbrev pub unknown : Command → Bool
-unknown Write = false
-unknown Fill = false
-unknown Entry = false
-unknown Check = false
-unknown Skip = false
-unknown Unknown = true
-
--- 19: a write has a data length of at least 8, fill 24, entry 8, check 88; a skipped command any
+-- a write has a data length of at least 8, fill 24, entry 8, check 88
 abbrev pub wrongLength : Command → ℕ → Bool
 wrongLength Write n = ltb n 8
 wrongLength Fill n = not (eqb n 24)
 wrongLength Entry n = not (eqb n 8)
 wrongLength Check n = not (eqb n 88)
-wrongLength Skip n = false
-wrongLength Unknown n = false
 
--- what a header is judged by, with `left` bytes of the file behind it: 18, 19, then 17 where its data runs past the file
-abbrev pub headerRules : Command → ℕ → ℕ → List Rule
-headerRules k n left = rule 18 (unknown k) ∷ rule 19 (wrongLength k n) ∷ rule 17 (ltb left n) ∷ []
+-- 17: data of n bytes runs past the file, which has `left` bytes behind the header
+abbrev pub dataRules : ℕ → ℕ → List Rule
+dataRules n left = rule 17 (ltb left n) ∷ []
 
--- a range that is to be stored to: 20 not reachable, 21 not RAM
-abbrev pub rangeRules : Board → ℕ → ℕ → List Rule
-rangeRules unit a n = rule 20 (not (reachable (unit .reach) a n)) ∷ rule 21 (not (ram (unit .map) a n)) ∷ []
+-- 19 the data length, then 17
+abbrev pub lengthRules : Command → ℕ → ℕ → List Rule
+lengthRules k n left = rule 19 (wrongLength k n) ∷ dataRules n left
+
+-- a range that is to be stored to, under a map and a reach limit: 20 not reachable, 21 not RAM
+abbrev pub rangeRules : List Region → ℕ → ℕ → ℕ → List Rule
+rangeRules map top a n = rule 20 (not (reachable top a n)) ∷ rule 21 (not (ram map a n)) ∷ []
 
 -- an entry address is reachable as a range of one byte; it need not be RAM
-abbrev pub entryRules : Board → ℕ → List Rule
-entryRules unit a = rule 20 (not (reachable (unit .reach) a 1)) ∷ []
+abbrev pub entryRules : ℕ → ℕ → List Rule
+entryRules top a = rule 20 (not (reachable top a 1)) ∷ []
 
 -- whether a zero byte is somewhere
 unfoldable pub hasZero : List ℕ → Bool
@@ -112,13 +106,14 @@ abbrev pub passes : Found → ℕ → ℕ → Bool
 passes (Word w) m v = eqb (bitAnd w m) v
 passes Nothing m v = false
 
--- 22 text without zero; 23 CPUID not available; 24 result register over 3; 25 no such record; 26 check failed
-abbrev pub checkRules : Board → List ℕ → List Rule
-checkRules unit c =
-    let found = lookup (unit .table) (eax c) (ecx c) (resultRegister c) in
+-- 25 no such record; 26 check failed
+abbrev pub foundRules : Found → ℕ → ℕ → List Rule
+foundRules found m v = rule 25 (missing found) ∷ rule 26 (not (passes found m v)) ∷ []
+
+-- 22 text without zero; 23 CPUID not available; 24 result register over 3; then what a lookup finds
+abbrev pub checkRules : List Leaf → List ℕ → List Rule
+checkRules table c =
     rule 22 (not (hasZero (text c)))
-    ∷ rule 23 (eqb (length (unit .table)) 0)
+    ∷ rule 23 (eqb (length table) 0)
     ∷ rule 24 (ltb 3 (resultRegister c))
-    ∷ rule 25 (missing found)
-    ∷ rule 26 (not (passes found (mask c) (value c)))
-    ∷ []
+    ∷ foundRules (lookup table (eax c) (ecx c) (resultRegister c)) (mask c) (value c)

@@ -1,4 +1,4 @@
--- The written machine: what each proved byte of a command file does ("The commands").
+-- The written machine: what each proved byte of a command file does.
 -- It is told the unit and the file's length, and it never sees memory: it answers with the stores to make.
 use mathlib.Core.Bool.{Bool, true, false, cond}
 use mathlib.Core.List.{List, [], _∷_, _++_}
@@ -6,37 +6,52 @@ use Prim.Native.Nat.{ℕ, zero, suc, pred, _+_, _-_}
 use lib.Dec.{eqb, ltb}
 use lib.ListN.{length, replicate}
 use Rattle.octets.specs.Numbers.{little}
+use Rattle.answers.specs.Answers.{stopAt, told}
 use Rattle.answers.specs.Rules.{firstBroken}
 use Rattle.answers.specs.declared.Answer.{Answer}
-use Rattle.board.specs.Board.{Board}
+use Rattle.answers.specs.declared.Stop.{Stop}
+use Rattle.board.specs.Cpuid.{Leaf, leaves}
+use Rattle.board.specs.Map.{Region, regions}
+use Rattle.board.specs.Reach.{limit}
 use Rattle.machine.specs.Commands.{
-  commandOf,
+  named,
+  commandId,
   dataLength,
   address,
   fillCount,
   pattern,
   judgedBytes,
-  headerRules,
+  dataRules,
+  lengthRules,
   rangeRules,
   entryRules,
   checkRules,
 }
 use Rattle.machine.specs.declared.Command.{Command}
-use Rattle.machine.specs.declared.Command.the-variants.{Write, Fill, Entry, Check, Skip, Unknown}
-use Rattle.machine.specs.declared.Tally.{Tally}
+use Rattle.machine.specs.declared.Command.the-variants.{Write, Fill, Entry, Check}
+use Rattle.machine.specs.declared.Halt.{Halt}
+use Rattle.machine.specs.declared.Halt.the-variants.{At, Not}
+use Rattle.machine.specs.declared.Job.{Job}
+use Rattle.machine.specs.declared.Named.{Named}
+use Rattle.machine.specs.declared.Named.the-variants.{Known, Skipped, Unknown}
 use Rattle.machine.specs.declared.Phase.{Phase}
 use Rattle.machine.specs.declared.Phase.the-variants.{Magic, Header, Parameters, Storing, Skipping, Stopped}
+use Rattle.machine.specs.declared.Tally.{Tally}
 
--- what a run is held against
-pub record Job : Type 0 where
-  pub unit : Board
-  pub fileLength : ℕ
+-- what a run is held against: the job, which is the file's length and the mode, and the unit's map and table
+pub record Setting : Type 0 where
+  pub job : Job
+  pub map : List Region
+  pub table : List Leaf
+
+abbrev pub settingOf : Job → List ℕ → List ℕ → Setting
+settingOf job map table = record { job = job; map = regions map; table = leaves table }
 
 -- where a run stands between two bytes of the file
 pub record State : Type 0 where
   pub phase : Phase
   -- the bytes so far of the magic, or of the command's header and parameters
-  pub held : List ℕ
+  pub gathered : List ℕ
   -- the file offsets of the command's first byte, and of the next byte
   pub start : ℕ
   pub next : ℕ
@@ -48,36 +63,36 @@ pub record Store : Type 0 where
   pub address : ℕ
   pub byte : ℕ
 
--- what a byte does: the state after it, and the stores that it causes, in order
-pub record Turn : Type 0 where
+-- what bytes do: the state after them, and the stores that they cause, in order
+pub record Effect : Type 0 where
   pub state : State
   pub stores : List Store
 
-abbrev pub still : State → Turn
-still s = record { state = s; stores = [] }
+abbrev pub noStores : State → Effect
+noStores s = record { state = s; stores = [] }
 
 -- bytes for ascending addresses from a on
 unfoldable pub storesFrom : ℕ → List ℕ → List Store
 storesFrom a [] = []
 storesFrom a (b ∷ bs) = record { address = a; byte = b } ∷ storesFrom (suc a) bs
 
-abbrev pub turnedTo : Phase → State → State
-turnedTo p s = record { phase = p; held = s .held; start = s .start; next = s .next; tally = s .tally }
+abbrev pub inPhase : Phase → State → State
+inPhase p s = record { phase = p; gathered = s .gathered; start = s .start; next = s .next; tally = s .tally }
 
 abbrev pub stopped : ℕ → ℕ → State → State
-stopped code place = turnedTo (Stopped code place)
+stopped code place = inPhase (Stopped (stopAt code place))
 
--- the byte b is used: kept behind those held
+-- the byte b is used: kept behind those gathered
 abbrev pub kept : ℕ → State → State
 kept b s =
-    record { phase = s .phase; held = s .held ++ (b ∷ []); start = s .start; next = suc (s .next); tally = s .tally }
+    record { phase = s .phase; gathered = s .gathered ++ (b ∷ []); start = s .start; next = suc (s .next); tally = s .tally }
 
 -- the byte is used and not kept
 abbrev pub used : State → State
-used s = record { phase = s .phase; held = s .held; start = s .start; next = suc (s .next); tally = s .tally }
+used s = record { phase = s .phase; gathered = s .gathered; start = s .start; next = suc (s .next); tally = s .tally }
 
 abbrev pub tallied : Tally → State → State
-tallied t s = record { phase = s .phase; held = s .held; start = s .start; next = s .next; tally = t }
+tallied t s = record { phase = s .phase; gathered = s .gathered; start = s .start; next = s .next; tally = t }
 
 -- bytes stored counts every store, repeats included
 abbrev pub withStored : ℕ → Tally → Tally
@@ -94,140 +109,132 @@ withCommand t =
 
 -- the bytes of a command are awaited
 abbrev pub awaiting : State → State
-awaiting s = record { phase = Header; held = []; start = s .next; next = s .next; tally = s .tally }
+awaiting s = record { phase = Header; gathered = []; start = s .next; next = s .next; tally = s .tally }
 
--- Where a command would begin, judged from sizes alone: at the file's end 0, or 27 without an entry command;
--- 17 with 1 to 15 bytes left; else a command begins.
-unfoldable pub begins : Job → State → State
-begins job s =
-    cond (eqb (s .next) (job .fileLength))
-    (cond (s .tally .entered) (stopped 0 0 s) (stopped 27 (job .fileLength) s))
-    (cond (ltb (job .fileLength - s .next) 16) (stopped 17 (s .next) s) (awaiting s))
+-- Where a command would begin in a file of this length, judged from sizes alone: at the file's end 0, or 27 without an
+-- entry command; 17 with 1 to 15 bytes left; else a command begins.
+unfoldable pub commandBegins : ℕ → State → State
+commandBegins fileLength s =
+    cond (eqb (s .next) fileLength) (cond (s .tally .entered) (stopped 0 0 s) (stopped 27 fileLength s))
+    (cond (ltb (fileLength - s .next) 16) (stopped 17 (s .next) s) (awaiting s))
 
 -- a command counts as done when its last byte has been used
-unfoldable pub finished : Job → State → State
-finished job s = begins job (tallied (withCommand (s .tally)) s)
+unfoldable pub finished : ℕ → State → State
+finished fileLength s = commandBegins fileLength (tallied (withCommand (s .tally)) s)
 
--- a command that breaks a rule stops the run at its first byte; one that breaks none goes on
-abbrev pub judged : ℕ → State → Turn → Turn
-judged code s t = cond (eqb code 0) t (still (stopped code (s .start) s))
+-- a command that breaks a rule stops the run at its first byte; one that breaks none has its effect
+abbrev pub judged : ℕ → State → Effect → Effect
+judged code s e = cond (eqb code 0) e (noStores (stopped code (s .start) s))
 
 -- the magic is judged when its 8 bytes are proved
-unfoldable pub magicRead : Job → State → State
-magicRead job s = cond (eqb (little (s .held)) 0x8adc5fa2448cb65e) (begins job s) (stopped 16 0 s)
+unfoldable pub magicRead : ℕ → State → Effect
+magicRead fileLength s =
+    noStores (cond (eqb (little (s .gathered)) 0x8adc5fa2448cb65e) (commandBegins fileLength s) (stopped 16 0 s))
 
--- a header has passed: a skipped command has its data skipped, the others wait for what they are judged by
-unfoldable pub passed : Job → Command → ℕ → State → State
-passed job Write n s = turnedTo Parameters s
-passed job Fill n s = turnedTo Parameters s
-passed job Entry n s = turnedTo Parameters s
-passed job Check n s = turnedTo Parameters s
-passed job Skip n s = cond (eqb n 0) (finished job s) (turnedTo (Skipping n) s)
--- does not come: it has not passed
-passed job Unknown n s = s
+-- What a header says of data of n bytes: a command is judged by its length, and waits for what else it is judged by;
+-- a skipped one has its data skipped; an unknown one is refused.
+unfoldable pub headerSays : Named → ℕ → ℕ → State → Effect
+headerSays (Known k) fileLength n s =
+    judged (firstBroken (lengthRules k n (fileLength - s .next))) s (noStores (inPhase (Parameters k) s))
+headerSays Skipped fileLength n s =
+    judged (firstBroken (dataRules n (fileLength - s .next))) s
+    (noStores (cond (eqb n 0) (finished fileLength s) (inPhase (Skipping n) s)))
+headerSays Unknown fileLength n s = judged 18 s (noStores s)
 
-unfoldable pub headerRead : Job → State → Turn
-headerRead job s =
-    judged (firstBroken (headerRules (commandOf (s .held)) (dataLength (s .held)) (job .fileLength - s .next))) s
-    (still (passed job (commandOf (s .held)) (dataLength (s .held)) s))
+unfoldable pub headerRead : ℕ → State → Effect
+headerRead fileLength s = headerSays (named (commandId (s .gathered))) fileLength (dataLength (s .gathered)) s
 
 -- a write's address is judged over its whole range; then each byte is stored as it comes
-unfoldable pub writeRead : Job → State → Turn
-writeRead job s =
-    let n = dataLength (s .held) - 8 in
-    judged (firstBroken (rangeRules (job .unit) (address (s .held)) n)) s
-    (still (cond (eqb n 0) (finished job s) (turnedTo (Storing (address (s .held)) n) s)))
+unfoldable pub writeRead : Job → List Region → State → Effect
+writeRead job map s =
+    let n = dataLength (s .gathered) - 8 in
+    judged (firstBroken (rangeRules map (limit (job .mode)) (address (s .gathered)) n)) s
+    (noStores (cond (eqb n 0) (finished (job .length) s) (inPhase (Storing (address (s .gathered)) n) s)))
 
 -- a fill stores ascending
-unfoldable pub fillRead : Job → State → Turn
-fillRead job s =
-    let n = fillCount (s .held) in
-    judged (firstBroken (rangeRules (job .unit) (address (s .held)) n)) s
+unfoldable pub fillRead : Job → List Region → State → Effect
+fillRead job map s =
+    let n = fillCount (s .gathered) in
+    judged (firstBroken (rangeRules map (limit (job .mode)) (address (s .gathered)) n)) s
     (record {
-      state = finished job (tallied (withStored n (s .tally)) s);
-      stores = storesFrom (address (s .held)) (replicate n (pattern (s .held)));
+      state = finished (job .length) (tallied (withStored n (s .tally)) s);
+      stores = storesFrom (address (s .gathered)) (replicate n (pattern (s .gathered)));
     })
 
-unfoldable pub entryRead : Job → State → Turn
+unfoldable pub entryRead : Job → State → Effect
 entryRead job s =
-    judged (firstBroken (entryRules (job .unit) (address (s .held)))) s
-    (still (finished job (tallied (withEntry (address (s .held)) (s .tally)) s)))
+    judged (firstBroken (entryRules (limit (job .mode)) (address (s .gathered)))) s
+    (noStores (finished (job .length) (tallied (withEntry (address (s .gathered)) (s .tally)) s)))
 
-unfoldable pub checkRead : Job → State → Turn
-checkRead job s = judged (firstBroken (checkRules (job .unit) (s .held))) s (still (finished job s))
+unfoldable pub checkRead : ℕ → List Leaf → State → Effect
+checkRead fileLength table s =
+    judged (firstBroken (checkRules table (s .gathered))) s (noStores (finished fileLength s))
 
-unfoldable pub parametersRead : Job → Command → State → Turn
-parametersRead job Write s = writeRead job s
-parametersRead job Fill s = fillRead job s
-parametersRead job Entry s = entryRead job s
-parametersRead job Check s = checkRead job s
--- these do not come: they have no parameters
-parametersRead job Skip s = still s
-parametersRead job Unknown s = still s
+unfoldable pub parametersRead : Command → Setting → State → Effect
+parametersRead Write e s = writeRead (e .job) (e .map) s
+parametersRead Fill e s = fillRead (e .job) (e .map) s
+parametersRead Entry e s = entryRead (e .job) s
+parametersRead Check e s = checkRead (e .job .length) (e .table) s
 
--- one byte kept; when the wanted number is there, what they say
-abbrev pub gathered : ℕ → State → Turn → Turn
-gathered wanted s whole = cond (ltb (length (s .held)) wanted) (still s) whole
+-- the byte b is gathered; when all that are awaited are there, what they say
+abbrev pub gather : ℕ → (State → Effect) → State → ℕ → Effect
+gather all says s b = let t = kept b s in cond (ltb (length (t .gathered)) all) (noStores t) (says t)
 
 -- the last byte of a command's data finishes it
-abbrev pub unlessLast : Job → ℕ → Phase → State → State
-unlessLast job left p s = cond (eqb left 1) (finished job s) (turnedTo p s)
+abbrev pub unlessLast : ℕ → ℕ → Phase → State → State
+unlessLast fileLength left p s = cond (eqb left 1) (finished fileLength s) (inPhase p s)
 
 -- what one proved byte does
-unfoldable pub react : Phase → Job → State → ℕ → Turn
-react Magic job s b = let t = kept b s in gathered 8 t (still (magicRead job t))
-react Header job s b = let t = kept b s in gathered 16 t (headerRead job t)
-react Parameters job s b =
-    let t = kept b s in
-    gathered (16 + judgedBytes (commandOf (t .held))) t (parametersRead job (commandOf (t .held)) t)
-react (Storing a left) job s b =
+unfoldable pub react : Phase → Setting → State → ℕ → Effect
+react Magic e s b = gather 8 (magicRead (e .job .length)) s b
+react Header e s b = gather 16 (headerRead (e .job .length)) s b
+react (Parameters k) e s b = gather (16 + judgedBytes k) (parametersRead k e) s b
+react (Storing a left) e s b =
     record {
-      state = unlessLast job left (Storing (suc a) (pred left)) (used (tallied (withStored 1 (s .tally)) s));
+      state = unlessLast (e .job .length) left (Storing (suc a) (pred left)) (used (tallied (withStored 1 (s .tally)) s));
       stores = record { address = a; byte = b } ∷ [];
     }
-react (Skipping left) job s b = still (unlessLast job left (Skipping (pred left)) (used s))
-react (Stopped code place) job s b = still s
+react (Skipping left) e s b = noStores (unlessLast (e .job .length) left (Skipping (pred left)) (used s))
+react (Stopped stop) e s b = noStores s
 
-abbrev pub step : Job → State → ℕ → Turn
-step job s b = react (s .phase) job s b
+abbrev pub step : Setting → State → ℕ → Effect
+step e s b = react (s .phase) e s b
 
 -- the state after the bytes
-unfoldable pub run : Job → State → List ℕ → State
-run job s [] = s
-run job s (b ∷ bs) = run job (step job s b .state) bs
+unfoldable pub run : Setting → State → List ℕ → State
+run e s [] = s
+run e s (b ∷ bs) = run e (step e s b .state) bs
 
 -- the stores that the bytes cause, in order
-unfoldable pub trace : Job → State → List ℕ → List Store
-trace job s [] = []
-trace job s (b ∷ bs) = step job s b .stores ++ trace job (step job s b .state) bs
+unfoldable pub trace : Setting → State → List ℕ → List Store
+trace e s [] = []
+trace e s (b ∷ bs) = step e s b .stores ++ trace e (step e s b .state) bs
 
 -- before the first byte; 16 for a short file is judged from its size
-abbrev pub begun : Job → State
-begun job =
+abbrev pub begun : ℕ → State
+begun fileLength =
     record {
-      phase = cond (ltb (job .fileLength) 8) (Stopped 16 0) Magic;
-      held = [];
+      phase = cond (ltb fileLength 8) (Stopped (stopAt 16 0)) Magic;
+      gathered = [];
       start = 0;
       next = 0;
       tally = record { commands = 0; stored = 0; entry = 0; entered = false };
     }
 
--- an answer with the counts as they stand; entry is 0 on refusal
-abbrev pub answerWith : ℕ → ℕ → State → Answer
-answerWith code place s =
-    record {
-      code = code;
-      place = place;
-      commands = s .tally .commands;
-      stored = s .tally .stored;
-      entry = cond (eqb code 0) (s .tally .entry) 0;
-    }
+-- whether a run has stopped, and with what
+abbrev pub halted : Phase → Halt
+halted Magic = Not
+halted Header = Not
+halted (Parameters k) = Not
+halted (Storing a left) = Not
+halted (Skipping left) = Not
+halted (Stopped stop) = At stop
 
--- the answer of a run that has stopped; of one that has not, the given code and place with the counts as they stand
-abbrev pub answerOr : Phase → ℕ → ℕ → State → Answer
-answerOr Magic code place s = answerWith code place s
-answerOr Header code place s = answerWith code place s
-answerOr Parameters code place s = answerWith code place s
-answerOr (Storing a left) code place s = answerWith code place s
-answerOr (Skipping left) code place s = answerWith code place s
-answerOr (Stopped c p) code place s = answerWith c p s
+-- the stop of a run that has stopped; of one that has not, the given one
+abbrev pub stopOr : Stop → Halt → Stop
+stopOr otherwise (At stop) = stop
+stopOr otherwise Not = otherwise
+
+-- the answer of a stop, with the counts as they stand; entry is 0 on refusal
+abbrev pub answerOf : Stop → Tally → Answer
+answerOf stop t = told stop (t .commands) (t .stored) (cond (eqb (stop .code) 0) (t .entry) 0)

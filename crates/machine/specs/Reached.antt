@@ -2,8 +2,8 @@
 use mathlib.Core.Path.{_≡_}
 use mathlib.Core.List.{List}
 use Prim.Native.Nat.{ℕ}
-use Rattle.machine.specs.Machine.{Job, State, begun, run}
+use Rattle.machine.specs.Machine.{Setting, State, begun, run}
 
 -- some bytes, from the first of the file on, lead to s
-abbrev pub Reached : Job → State → Type 0
-Reached job s = (bytes : List ℕ) × (s ≡ run job (begun job) bytes)
+abbrev pub Reached : Setting → State → Type 0
+Reached e s = (bytes : List ℕ) × (s ≡ run e (begun (e .job .length)) bytes)

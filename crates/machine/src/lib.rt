@@ -1,20 +1,42 @@
 // The command machine: what the proved bytes of a command file do to a unit.
 pub mod bare;
 mod commands;
+mod memory;
 mod steps;
-mod turns;
+mod taking;
 
 ghost use mathlib.Core.Path.{_≡_};
 ghost use denote.Ref.{now};
 ghost use lib.ListN.{length};
-ghost use Rattle.board.specs.Board.{Board};
 ghost use Rattle.board.specs.Map.{regions};
-ghost use Rattle.machine.specs.Bare.{jobOf};
-ghost use Rattle.machine.specs.Code.{machineOf, answerFor, jobOn, Ready, isStopped};
+ghost use Rattle.machine.specs.Code.{machineOf};
+ghost use Rattle.machine.specs.Contracts.{Ready};
 ghost use Rattle.machine.specs.Machine as spec;
 ghost use Rattle.machine.specs.Memory.{applied};
 use answers::Answer;
+use answers::Stop;
 use answers::codes;
+
+// What a run is given besides the unit's map and table: the file's length, and the mode.
+pub struct Job {
+    pub length: u64,
+    pub mode: u64,
+}
+
+// The commands that act on the unit.
+pub enum Command {
+    Write,
+    Fill,
+    Entry,
+    Check,
+}
+
+// What a command ID names.
+pub enum Named {
+    Known(Command),
+    Skipped,
+    Unknown,
+}
 
 // What the next byte is read as.
 pub enum Phase {
@@ -22,24 +44,20 @@ pub enum Phase {
     Magic,
     // one of a command's 16 header bytes
     Header,
-    // one of the data bytes that a command is judged by
-    Parameters,
+    // one of the data bytes that this command is judged by
+    Parameters(Command),
     // the byte for an address, of as many as are left
     Storing { address: u64, left: u64 },
     // a byte of a skipped command's data, of as many as are left
     Skipping { left: u64 },
     // nothing: the run has ended
-    Stopped { code: u64, place: u64 },
+    Stopped(Stop),
 }
 
-// What a command's ID asks for.
-pub enum Command {
-    Write,
-    Fill,
-    Entry,
-    Check,
-    Skip,
-    Unknown,
+// Whether a run has stopped, and with what.
+pub enum Halt {
+    At(Stop),
+    Not,
 }
 
 // What a run has done so far: commands done, bytes stored, and the last entry, if one was set.
@@ -51,17 +69,18 @@ pub struct Tally {
 }
 
 // Where a run stands between two pieces. The bytes so far of the magic, or of the command's header and parameters,
-// are the first `kept` of `held`; `start` and `next` are the file offsets of the command's first byte and of the next byte.
+// are the first `kept` of `gathered`; `start` and `next` are the file offsets of the command's first byte and of the
+// next byte.
 pub struct Machine {
     pub phase: Phase,
-    pub held: [u8; 104],
+    pub gathered: [u8; GATHERED],
     pub kept: usize,
     pub start: u64,
     pub next: u64,
     pub tally: Tally,
 }
 
-// A machine while it takes a piece: without its held bytes, so that these are not copied at each step.
+// A machine while it takes a piece: without its gathered bytes, so that these are not copied at each step.
 pub struct Control {
     pub phase: Phase,
     pub kept: usize,
@@ -70,64 +89,72 @@ pub struct Control {
     pub tally: Tally,
 }
 
-// What a turn leaves: the control, and how many bytes it used.
+// What bytes leave: the control, and how many of them were used.
 pub struct Taken {
     pub control: Control,
     pub used: usize,
 }
 
+// What gathering leaves: the control, how many bytes were used, and whether all that are awaited are there.
+pub struct Gathering {
+    pub control: Control,
+    pub used: usize,
+    pub whole: bool,
+}
+
+// The magic number that a command file begins with.
+pub const MAGIC: u64 = 0x8adc5fa2448cb65e;
+
+// Its bytes.
+pub const MAGIC_LENGTH: u64 = 8;
+
+// The most bytes that are gathered: a check's header and data.
+pub const GATHERED: usize = 104;
+
 // A machine before the first byte of a file of this length.
-pub fn begin(size: u64) -> Machine
-    ensures { λ r. ⌜ ((unit : Board) → machineOf r ≡ spec.begun (jobOn unit size)) ⌝ }
+pub fn begin(length: u64) -> Machine
+    ensures { λ r. ⌜ machineOf r ≡ spec.begun length ⌝ }
 {
-    let held = [0u8; 104];
-    let tally = Tally {
-        commands: 0,
-        stored: 0,
-        entry: 0,
-        entered: false,
-    };
-    if size < 8 {
-        return Machine {
-            phase: Phase::Stopped {
-                code: codes::FILE_MAGIC,
-                place: 0,
-            },
-            held,
-            kept: 0,
-            start: 0,
-            next: 0,
-            tally,
-        };
-    }
-    Machine {
+    let ready = Machine {
         phase: Phase::Magic,
-        held,
+        gathered: [0u8; GATHERED],
         kept: 0,
         start: 0,
         next: 0,
-        tally,
+        tally: Tally {
+            commands: 0,
+            stored: 0,
+            entry: 0,
+            entered: false,
+        },
+    };
+    if length < MAGIC_LENGTH {
+        return Machine {
+            phase: Phase::Stopped(answers::stop_at(codes::FILE_MAGIC, 0)),
+            ..ready
+        };
     }
+    ready
 }
 
 // Takes the next bytes of the file, all of them proved: a piece of any length.
 pub fn take_piece(
     m: Machine,
     piece: &[u8],
-    size: u64,
+    job: Job,
     map: &[u8],
     table: &[u8],
-    mode: u64,
     memory: &mut [u8],
 ) -> Machine
-    requires { ⌜ Ready size (now map) (now table) mode (length (now memory)) (machineOf m) ⌝ }
-    ensures { λ r. ⌜ (machineOf r ≡ spec.run (jobOf size (now (map .entry)) (now (table .entry)) mode) (machineOf m) (now (piece .entry)))
+    requires { ⌜ Ready job (now map) (now table) (length (now memory)) (machineOf m) ⌝ }
+    ensures { λ r. ⌜ (machineOf r ≡ spec.run (spec.settingOf job (now (map .entry)) (now (table .entry))) (machineOf m)
+        (now (piece .entry)))
         × (now (memory .exit) ≡ applied (regions (now (map .entry))) (now (memory .entry))
-        (spec.trace (jobOf size (now (map .entry)) (now (table .entry)) mode) (machineOf m) (now (piece .entry)))) ⌝ }
+        (spec.trace (spec.settingOf job (now (map .entry)) (now (table .entry))) (machineOf m) (now (piece .entry)))) ⌝ }
 {
     let phase = m.phase;
     let tally = m.tally;
-    let mut held = m.held;
+    let mut gathered = m.gathered;
     let c = Control {
         phase,
         kept: m.kept,
@@ -135,12 +162,12 @@ pub fn take_piece(
         next: m.next,
         tally,
     };
-    let end = turns::run_piece(c, &mut held, piece, size, map, table, mode, memory);
+    let end = taking::take_all(c, &mut gathered, piece, job, map, table, memory);
     let phase_now = end.phase;
     let tally_now = end.tally;
     Machine {
         phase: phase_now,
-        held,
+        gathered,
         kept: end.kept,
         start: end.start,
         next: end.next,
@@ -148,51 +175,40 @@ pub fn take_piece(
     }
 }
 
-// Whether a run has ended.
-pub fn has_stopped(m: Machine) -> bool
-    ensures { λ r. ⌜ r ≡ isStopped (m .phase) ⌝ }
+// Whether a run has stopped, and with what.
+pub fn halted(m: Machine) -> Halt
+    ensures { λ r. ⌜ r ≡ spec.halted (m .phase) ⌝ }
 {
     let phase = m.phase;
-    turns::is_stopped(phase)
-}
-
-// The answer of a run that has stopped; of one that has not, the given code and place with the counts as they stand.
-pub fn answer_of(m: Machine, code: u64, place: u64) -> Answer
-    ensures { λ r. ⌜ r ≡ spec.answerOr (m .phase) code place (machineOf m) ⌝ }
-{
-    let phase = m.phase;
-    let tally = m.tally;
     match phase {
-        Phase::Magic => answer_with(code, place, tally),
-        Phase::Header => answer_with(code, place, tally),
-        Phase::Parameters => answer_with(code, place, tally),
+        Phase::Magic => Halt::Not,
+        Phase::Header => Halt::Not,
+        Phase::Parameters(_) => Halt::Not,
         Phase::Storing {
             address: _,
             left: _,
-        } => answer_with(code, place, tally),
-        Phase::Skipping { left: _ } => answer_with(code, place, tally),
-        Phase::Stopped { code: c, place: p } => answer_with(c, p, tally),
+        } => Halt::Not,
+        Phase::Skipping { left: _ } => Halt::Not,
+        Phase::Stopped(stop) => Halt::At(stop),
     }
 }
 
-// An answer with the counts as they stand; entry is 0 on refusal.
-fn answer_with(code: u64, place: u64, tally: Tally) -> Answer
-    ensures { λ r. ⌜ r ≡ answerFor code place tally ⌝ }
+// The stop of a run that has stopped; of one that has not, the given one.
+pub fn stop_or(otherwise: Stop, halt: Halt) -> Stop
+    ensures { λ r. ⌜ r ≡ spec.stopOr otherwise halt ⌝ }
 {
-    if code == codes::DONE {
-        return Answer {
-            code,
-            place,
-            commands: tally.commands,
-            stored: tally.stored,
-            entry: tally.entry,
-        };
+    match halt {
+        Halt::At(stop) => stop,
+        Halt::Not => otherwise,
     }
-    Answer {
-        code,
-        place,
-        commands: tally.commands,
-        stored: tally.stored,
-        entry: 0,
+}
+
+// The answer of a stop, with the counts as they stand; entry is 0 on refusal.
+pub fn answer_of(stop: Stop, tally: Tally) -> Answer
+    ensures { λ r. ⌜ r ≡ spec.answerOf stop tally ⌝ }
+{
+    if stop.code == codes::DONE {
+        return answers::told(stop, tally.commands, tally.stored, tally.entry);
     }
+    answers::told(stop, tally.commands, tally.stored, 0)
 }

@@ -2,9 +2,13 @@
 ghost use mathlib.Core.Path.{_≡_};
 ghost use denote.Ref.{now};
 ghost use lib.ListN.{length};
-ghost use Rattle.machine.specs.Code.{machineOf, Ready};
+ghost use Rattle.answers.specs.Answers.{recordLength};
+ghost use Rattle.machine.specs.Code.{machineOf};
+ghost use Rattle.machine.specs.Contracts.{Ready};
 use answers::codes;
+use answers::rules;
 use board::map;
+use machine::Job;
 use machine::Machine;
 use octets::parts;
 
@@ -62,32 +66,46 @@ fn agrees(file: &[u8], cut: Cut, answer: &[u8], memory: &[u8]) -> bool {
     let map = crate::unit::map();
     let table = crate::unit::table();
     let mut lent = crate::unit::fresh();
-    let mut held = [0u8; 40];
-    run(file, cut, &map, &table, &mut lent, &mut held);
-    if !parts::equal(&held, answer) {
+    let mut record = [0u8; answers::RECORD_LENGTH];
+    run(file, cut, &map, &table, &mut lent, &mut record);
+    if !parts::equal(&record, answer) {
         return false;
     }
     parts::equal(&lent, memory)
 }
 
 // As running bare does, but with the file in pieces.
-fn run(file: &[u8], cut: Cut, map: &[u8], table: &[u8], memory: &mut [u8], held: &mut [u8])
-    requires { ⌜ length (now held) ≡ 40 ⌝ }
+fn run(file: &[u8], cut: Cut, map: &[u8], table: &[u8], memory: &mut [u8], answer: &mut [u8])
+    requires { ⌜ length (now answer) ≡ recordLength ⌝ }
 {
-    let size = file.len() as u64;
-    if 1073741824 < size {
+    let length = file.len() as u64;
+    if rules::LARGEST < length {
         return;
     }
     if map::map_code(map, memory.len()) != codes::DONE {
         return;
     }
-    let end = taken(machine::begin(size), cut, file, map, table, memory);
-    answers::write_answer(held, machine::answer_of(end, 0, 0));
+    let mode = crate::unit::MODE;
+    let job = Job { length, mode };
+    let end = taken(machine::begin(length), cut, file, job, map, table, memory);
+    let stop = machine::stop_or(
+        answers::stop_at(codes::NO_ENTRY, length),
+        machine::halted(end),
+    );
+    answers::write_answer(answer, machine::answer_of(stop, end.tally));
 }
 
 // Takes the pieces one after another.
-fn taken(m: Machine, cut: Cut, file: &[u8], map: &[u8], table: &[u8], memory: &mut [u8]) -> Machine
-    requires { ⌜ Ready (length (now file)) (now map) (now table) 64 (length (now memory)) (machineOf m) ⌝ }
+fn taken(
+    m: Machine,
+    cut: Cut,
+    file: &[u8],
+    job: Job,
+    map: &[u8],
+    table: &[u8],
+    memory: &mut [u8],
+) -> Machine
+    requires { ⌜ Ready job (now map) (now table) (length (now memory)) (machineOf m) ⌝ }
 {
     let n = pieces(cut, file.len());
     let mut state = m;
@@ -95,7 +113,7 @@ fn taken(m: Machine, cut: Cut, file: &[u8], map: &[u8], table: &[u8], memory: &m
     let mut k = 0;
     while k < n {
         let to = end(cut, k, file.len());
-        state = piece(state, at, to, file, map, table, memory);
+        state = piece(state, at, to, file, job, map, table, memory);
         at = to;
         k += 1;
     }
@@ -108,13 +126,13 @@ fn piece(
     at: usize,
     to: usize,
     file: &[u8],
+    job: Job,
     map: &[u8],
     table: &[u8],
     memory: &mut [u8],
 ) -> Machine
-    requires { ⌜ Ready (length (now file)) (now map) (now table) 64 (length (now memory)) (machineOf m) ⌝ }
-    ensures { λ r. ⌜ Ready (length (now (file .entry))) (now (map .entry)) (now (table .entry)) 64 (length (now (memory .entry)))
-        (machineOf r) ⌝ }
+    requires { ⌜ Ready job (now map) (now table) (length (now memory)) (machineOf m) ⌝ }
+    ensures { λ r. ⌜ Ready job (now (map .entry)) (now (table .entry)) (length (now (memory .entry))) (machineOf r) ⌝ }
 {
     if to < at {
         return m;
@@ -122,16 +140,7 @@ fn piece(
     if file.len() < to {
         return m;
     }
-    let size = file.len() as u64;
-    machine::take_piece(
-        m,
-        &file[at..to],
-        size,
-        map,
-        table,
-        crate::unit::MODE,
-        memory,
-    )
+    machine::take_piece(m, &file[at..to], job, map, table, memory)
 }
 
 fn pieces(cut: Cut, size: usize) -> usize {

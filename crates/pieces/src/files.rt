@@ -15,7 +15,7 @@ impl File {
     }
 
     pub(crate) fn magic() -> File {
-        File::empty().eight(0x8adc5fa2448cb65e)
+        File::empty().eight(machine::MAGIC)
     }
 
     // Eight bytes for an address, 32 bytes in all.

@@ -71,7 +71,7 @@ fn tried(file: &[u8]) {
     let map = unit::map();
     let table = unit::table();
     let mut memory = unit::fresh();
-    let mut record = [0u8; 40];
+    let mut record = [0u8; answers::RECORD_LENGTH];
     machine::bare::run_bare(file, &map, &table, unit::MODE, &mut memory, &mut record);
     print_answer(&record);
     let count = cuts::all(file, &record, &memory);
@@ -79,7 +79,7 @@ fn tried(file: &[u8]) {
     labelled(b" cuts, ", count.agree);
 }
 
-fn print_answer(record: &[u8; 40]) {
+fn print_answer(record: &[u8; answers::RECORD_LENGTH]) {
     labelled(b": code ", numbers::little8(record, 0));
     labelled(b", place ", numbers::little8(record, 8));
     labelled(b", commands ", numbers::little8(record, 16));

@@ -1,25 +1,16 @@
 use mathlib.Core.Path.{_≡_, sym, ap, _∙_}
 use mathlib.Core.Bool.{not}
 use native.Mathlib.Numerals.{add-one}
-use native.Mathlib.Omega.{arith}
 use borrow.Author.Needs.{needs}
 use borrow.Author.Tests.{eq-eqb, ne-eqb}
-use Rattle.chain.proofs.CodeLaws.{taken}
 use Rattle.chain.proofs.blocks.ends.Statement.{statement}
 use Rattle.chain.proofs.blocks.ends.Tie as tie
 
 returns : tie.Need-returns
 returns c = simp (ne-eqb _ _ (λ e. c .if1 .taken (add-one _ ∙ e)))
 
-slice-aggregate-zero : tie.Need-slice-aggregate-zero
-slice-aggregate-zero c =
-    let s = c .before .before .before .before .before in taken (s .args .block .now) (s .args .h .«hashsum_length») (s .pre .0)
-
 returns-2 : tie.Need-returns-2
-returns-2 c =
-    let e = c .before .before .before in
-    ap not (c .zero .ensures) ∙ simp (eq-eqb _ _ (sym (add-one _) ∙ e .if1 .left))
+returns-2 c = ap not (c .zero .ensures) ∙ simp (eq-eqb _ _ (sym (add-one _) ∙ c .before .if1 .left))
 
 pub ends-spec : {M : Type 1} → statement M
-ends-spec =
-    tie.close (tie.spec (λ c. search needs) (λ c. search needs) returns (λ c. search needs) slice-aggregate-zero (λ c κs. search needs) returns-2)
+ends-spec = tie.close (tie.spec (λ c. search needs) returns (λ c κs. search needs) returns-2)

@@ -7,7 +7,7 @@ use borrow.Author.Needs.{needs}
 use borrow.Author.Tests.{eq-eqb, ne-eqb}
 use lib.ListN.{length, drop, drop-of-length-le}
 use Rattle.chain.specs.Hashsum.{anyUnknown}
-use Rattle.chain.proofs.JoinLaws.{skips-none, skips-known, meets-unknown}
+use Rattle.chain.proofs.HashingLaws.{skips-none, skips-known, meets-unknown}
 use Rattle.chain.proofs.hashsum.any_unknown.Statement.{statement}
 use Rattle.chain.proofs.hashsum.any_unknown.Tie as tie
 
@@ -22,7 +22,10 @@ returns c =
     let d = c .before in
     let b = d .before .before .before in
     let e : length (b .before .args .t1) ≡ 4 = b .before .good .0 .1 .0 .1 in
-    sym (b .loop .inv .1 ∙ meets-unknown (b .before .args .t1) (b .loop .i) (omega arith) (d .before .if1 .taken) (sym (d .digest-length .ensures) ∙ c .if2 .taken))
+    sym
+    (b .loop .inv .1
+    ∙ meets-unknown (b .before .args .t1) (b .loop .i) (omega arith) (d .before .if1 .taken)
+    (sym (d .digest-length .ensures) ∙ c .if2 .taken))
 
 loop-again : tie.Need-loop-again Inv-loop μ-loop
 loop-again c =

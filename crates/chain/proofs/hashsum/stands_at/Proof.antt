@@ -18,13 +18,21 @@ returns c =
 
 returns-2 : tie.Need-returns-2
 returns-2 c =
-    let a = c .before .before .before .before .before .args in
+    let e = c .before .before in
+    let a = e .before .before .before .args in
     let n : ℕ = length (a .first .now) in
-    let e : a .at + n - a .at ≡ n = omega arith in
-    c .equal .ensures ∙ ap (λ (k : ℕ). same (a .first .now) (part (a .s .now) (a .at) k)) e
+    let z : a .at + n - a .at ≡ n = omega arith in
+    c .equal .ensures ∙ ap (λ (k : ℕ). same (a .first .now) (part (a .s .now) (a .at) k)) z
 
 pub stands-at-spec : {M : Type 1} → statement M
 stands-at-spec =
     tie.close
-    (tie.spec (λ c. search needs) returns (λ c. search needs) (λ c. search needs) (λ c. search needs) (λ c. search needs) (λ c κs. search needs)
+    (tie.spec
+    (λ c. search needs)
+    returns
+    (λ c. search needs)
+    (λ c. search needs)
+    (λ c. search needs)
+    (λ c. search needs)
+    (λ c κs. search needs)
     returns-2)

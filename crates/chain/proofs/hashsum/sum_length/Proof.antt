@@ -7,7 +7,7 @@ use borrow.Author.Needs.{needs}
 use lib.ListN.{length, getD, take}
 use lib.Seq.{take-all}
 use Rattle.chain.specs.Hashsum.{sumLength}
-use Rattle.chain.proofs.JoinLaws.{length-more}
+use Rattle.chain.proofs.HashingLaws.{length-more}
 use Rattle.hashes.proofs.Theorems.{digestLength-most}
 use Rattle.chain.proofs.hashsum.sum_length.Statement.{statement}
 use Rattle.chain.proofs.hashsum.sum_length.Tie as tie
@@ -23,7 +23,9 @@ unfolding sumLength
 loop-holds c = (search needs, search needs, refl)
 
 add-n : tie.Need-add-n Inv-loop μ-loop
-add-n c = omega (arith, c .digest-length .ensures, digestLength-most (getD (c .before .before .before .args .t1) (c .before .before .loop .i) 0))
+add-n c =
+    let b = c .before .before in
+    omega (arith, c .digest-length .ensures, digestLength-most (getD (b .before .args .t1) (b .loop .i) 0))
 
 loop-again : tie.Need-loop-again Inv-loop μ-loop
 loop-again c =

@@ -6,35 +6,35 @@ use borrow.Author.Needs.{needs}
 use borrow.Author.Tests.{eq-eqb, ne-eqb, le-leb, lt-leb, leb-false}
 use lib.Dec.{leb}
 use Rattle.answers.specs.Rules.{rule}
-use Rattle.answers.proofs.RuleLaws.{AllHold, zero-all-hold}
-use Rattle.chain.specs.Code.{headerWith}
+use Rattle.answers.proofs.RuleLaws.{AllHold, zero-all-hold, refuses}
 use Rattle.chain.specs.Header.{blockSizeRules, dataLength}
-use Rattle.chain.proofs.CodeLaws.{refuses}
+use Rattle.chain.specs.declared.header.Stream.{Stream}
 use Rattle.chain.proofs.header.count_code.Statement.{statement}
 use Rattle.chain.proofs.header.count_code.Tie as tie
 
-returns : tie.Need-returns
-returns c = simp (eq-eqb _ _ (c .if1 .taken))
+abbrev numbers : tie.Else1 → Stream
+numbers c = c .before .before .before .before .args .s
 
 returns-2 : tie.Need-returns-2
 returns-2 c =
     let b = c .before in
-    let h = b .before .before .before .before .before .args .h in
-    refuses (blockSizeRules (h .«block_size») (h .«hashsum_length»)) (rule 11 (leb (dataLength (headerWith h [])) (h .padding)) ∷ [])
+    let s = numbers (b .before) in
+    refuses (blockSizeRules (s .«block_size») (s .«hashsum_length»))
+    (rule 11 (leb (dataLength (s .«block_size») (s .«hashsum_length»)) (s .padding)) ∷ [])
     (b .block-size-code .result) tt (b .block-size-code .ensures) (c .if2 .taken)
     ∙ simp (ne-eqb _ _ (b .before .if1 .left))
 
 -- the block size passed
-size-holds : (c : tie.Else2) → AllHold (blockSizeRules (c .before .before .before .before .before .before .args .h .«block_size») (c .before .before .before .before .before .before .args .h .«hashsum_length»))
+size-holds : (c : tie.Else2) → let s = numbers (c .before .before) in AllHold (blockSizeRules (s .«block_size») (s .«hashsum_length»))
 size-holds c =
     let b = c .before in
-    let h = b .before .before .before .before .before .args .h in
-    zero-all-hold (blockSizeRules (h .«block_size») (h .«hashsum_length»)) tt (sym (b .block-size-code .ensures) ∙ c .if2 .left)
+    let s = numbers (b .before) in
+    zero-all-hold (blockSizeRules (s .«block_size») (s .«hashsum_length»)) tt (sym (b .block-size-code .ensures) ∙ c .if2 .left)
 
 sub-if3 : tie.Need-sub-if3
 sub-if3 c =
-    let h = c .before .before .before .before .before .before .args .h in
-    omega (arith, leb-false (h .«block_size») (h .«hashsum_length») (size-holds c .0))
+    let s = numbers (c .before .before) in
+    omega (arith, leb-false (s .«block_size») (s .«hashsum_length») (size-holds c .0))
 
 returns-3 : tie.Need-returns-3
 returns-3 c =
@@ -49,4 +49,13 @@ returns-4 c =
 pub count-code-spec : {M : Type 1} → statement M
 count-code-spec =
     tie.close
-    (tie.spec (λ c. search needs) (λ c. search needs) returns (λ c κs. search needs) returns-2 sub-if3 (λ c. search needs) returns-3 returns-4)
+    (tie.spec
+    (λ c. search needs)
+    (λ c. search needs)
+    (λ c. simp (eq-eqb _ _ (c .if1 .taken)))
+    (λ c κs. search needs)
+    returns-2
+    sub-if3
+    (λ c. search needs)
+    returns-3
+    returns-4)

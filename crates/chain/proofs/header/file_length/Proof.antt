@@ -7,15 +7,17 @@ use Rattle.chain.proofs.header.file_length.Tie as tie
 
 mul-result : tie.Need-mul-result
 mul-result c =
-    let h = c .before .before .before .args .h in
-    omega (arith, mul-le-mul {n₁ = h .count} {m₁ = h .«block_size» - h .«hashsum_length»} {n₂ = 4294967295} {m₂ = 4294967295} (omega arith) (omega arith))
+    let s = c .before .before .before .args .s in
+    let n : ℕ = s .«block_size» - s .«hashsum_length» in
+    omega (arith, mul-le-mul {n₁ = s .count} {m₁ = n} {n₂ = 4294967295} {m₂ = 4294967295} (omega arith) (omega arith))
 
 -- one block's data is more than the padding
 sub-result : tie.Need-sub-result
 sub-result c =
-    let s = c .before .before .before .before in
-    let h = s .args .h in
-    omega (arith, s .pre .padded, mul-le-mul {n₁ = 1} {m₁ = h .«block_size» - h .«hashsum_length»} {n₂ = h .count} {m₂ = h .«block_size» - h .«hashsum_length»} (omega (arith, s .pre .some)) (omega arith))
+    let b = c .before .before .before .before in
+    let s = b .args .s in
+    let n : ℕ = s .«block_size» - s .«hashsum_length» in
+    omega (arith, b .pre .padded, mul-le-mul {n₁ = 1} {m₁ = n} {n₂ = s .count} {m₂ = n} (omega (arith, b .pre .counted)) (omega arith))
 
 pub file-length-spec : {M : Type 1} → statement M
 file-length-spec =

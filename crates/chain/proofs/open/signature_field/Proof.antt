@@ -1,4 +1,4 @@
-use mathlib.Core.Path.{_≡_, refl, sym, ap, ap₂, _∙_}
+use mathlib.Core.Path.{_≡_, refl, sym, ap, _∙_}
 use mathlib.Core.List.{List}
 use Prim.Native.Nat.{ℕ, _+_, _-_, _≤_}
 use native.Mathlib.Omega.{arith}
@@ -6,55 +6,62 @@ use borrow.Author.Needs.{needs}
 use lib.ListN.{length}
 use Rattle.octets.specs.Parts.{part}
 use Rattle.answers.specs.Rules.{firstBroken}
-use Rattle.chain.specs.Header.{Header, headerOf, streamRules}
-use Rattle.chain.proofs.HeaderLaws.{Passed, stream-passed}
+use Rattle.chain.specs.Header.{streamRules}
 use Rattle.chain.specs.Open.{fieldStart}
+use Rattle.chain.proofs.HeaderLaws.{Passed, stream-passed}
 use Rattle.chain.proofs.PassLaws.{starts-nowhere, starts-behind}
 use Rattle.chain.proofs.SignatureLaws.{empty-field, whole-field}
 use Rattle.chain.proofs.open.signature_field.Statement.{statement}
 use Rattle.chain.proofs.open.signature_field.Tie as tie
 
--- the code that the image got
-code : (c : tie.After-stream-code) → let a = c .before .before .before .args in
-    c .stream-code .result ≡ firstBroken (streamRules (a .image .now) (a .header .now) (a .expected))
-code c = c .stream-code .ensures
+module _ (c : tie.After-struct-known) where
+  abbrev start : tie.Start
+  start = c .before .before .before .before
+
+  abbrev image : List ℕ
+  image = start .args .image .now
+
+  abbrev header : List ℕ
+  header = start .args .header .now
+
+  abbrev signature : ℕ
+  signature = start .args .signature
+
+  code : c .before .stream-judged .result .code ≡ firstBroken (streamRules image header signature)
+  code = c .before .stream-judged .ensures .code
 
 returns : tie.Need-returns
 returns c =
-    let b = c .before .before in
-    let a = b .before .before .before .args in
-    let at : 0 + a .image .ptr .1 ≡ a .image .ptr .1 + fieldStart (a .image .now) (a .header .now) (a .expected) =
-    omega (arith, starts-nowhere (a .image .now) (a .header .now) (a .expected) (b .stream-code .result) (code b) (c .before .if1 .taken)) in (
-      sym (empty-field (a .image .now) (a .header .now) (a .expected) (λ e. c .before .if1 .taken (code b ∙ e))),
-      λ i. (a .image .ptr .0, at i),
+    let t = c .before in
+    let b = t .before in
+    let p = start b .args .image .ptr in
+    let at : 0 + p .1 ≡ p .1 + fieldStart (image b) (header b) (signature b) =
+    omega (arith, starts-nowhere (image b) (header b) (signature b) _ (code b) (t .if1 .taken)) in (
+      sym (empty-field (image b) (header b) (signature b) (λ e. t .if1 .taken (code b ∙ e))),
+      λ i. (p .0, at i),
     )
 
-passes : (c : tie.Else1) → let a = c .before .before .before .before .args in Passed (a .image .now) (a .header .now) (a .expected)
-passes c =
-    let b = c .before in
-    let a = b .before .before .before .args in
-    stream-passed (a .image .now) (a .header .now) (a .expected) (sym (code b) ∙ c .if1 .left) .1
+module _ (c : tie.Else1) where
+  passes : firstBroken (streamRules (image (c .before)) (header (c .before)) (signature (c .before))) ≡ 0
+  passes = sym (code (c .before)) ∙ c .if1 .left
 
-header-of-requires : tie.Need-header-of-requires
-header-of-requires c κs = passes c .enough
-
-part-result-end-2 : tie.Need-part-result-end-2
-part-result-end-2 c =
-    let b = c .before in
-    omega (arith, ap (λ (d : Header). d .signature) (b .header-of .ensures), passes (b .before) .exact)
+  -- the field lies in the image, behind the header's fields
+  within : (36 ≤ length (header (c .before))) × (length (header (c .before)) + signature (c .before) ≤ length (image (c .before)))
+  within =
+      let b = c .before in
+      let q = stream-passed (image b) (header b) (signature b) passes .1 in
+      (q .enough, omega (arith, q .exact, q .sound .approved, q .sound .signature))
 
 returns-2 : tie.Need-returns-2
 returns-2 c =
-    let b = c .before .before in
-    let g = b .before .before in
-    let a = g .before .before .before .args in
-    let n : length (a .header .now) + b .header-of .result .signature - length (a .header .now) ≡ a .expected =
-    omega (arith, ap (λ (d : Header). d .signature) (b .header-of .ensures), passes (b .before) .sound .signature) in
-    let at : length (a .header .now) + a .image .ptr .1 ≡ a .image .ptr .1 + fieldStart (a .image .now) (a .header .now) (a .expected) =
-    omega (arith, starts-behind (a .image .now) (a .header .now) (a .expected) (g .stream-code .result) (code g) (b .before .if1 .left)) in (
-      ap (λ (i : ℕ). part (a .image .now) (length (a .header .now)) i) n
-          ∙ sym (whole-field (a .image .now) (a .header .now) (a .expected) (sym (code g) ∙ b .before .if1 .left) .0),
-      λ i. (a .image .ptr .0, at i),
+    let e = c .before in
+    let b = e .before in
+    let p = start b .args .image .ptr in
+    let n : length (header b) + signature b - length (header b) ≡ signature b = omega arith in
+    let at : length (header b) + p .1 ≡ p .1 + fieldStart (image b) (header b) (signature b) =
+    omega (arith, starts-behind (image b) (header b) (signature b) _ (code b) (e .if1 .left)) in (
+      ap (λ (i : ℕ). part (image b) (length (header b)) i) n ∙ sym (whole-field (image b) (header b) (signature b) (passes e) .0),
+      λ i. (p .0, at i),
     )
 
 pub signature-field-spec : {M : Type 1} → statement M
@@ -66,10 +73,8 @@ signature-field-spec =
     (λ c. search needs)
     (λ c. search needs)
     returns
-    header-of-requires
+    (λ c. omega (arith, within c, start (c .before) .good))
     (λ c. search needs)
     (λ c. search needs)
-    (λ c. search needs)
-    (λ c. search needs)
-    part-result-end-2
+    (λ c. omega (arith, within c))
     returns-2)

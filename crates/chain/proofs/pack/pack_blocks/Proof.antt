@@ -4,30 +4,34 @@ use Prim.Native.Nat.{ℕ, _+_, _-_, _≤_}
 use borrow.Author.Needs.{needs}
 use native.Mathlib.Omega.{arith}
 use lib.ListN.{length}
-use Rattle.chain.specs.Code.{Planned, Written}
+use Rattle.chain.specs.Contracts.{Planned, Written}
 use Rattle.chain.proofs.PackingLaws.{planned, none-written}
 use Rattle.chain.proofs.pack.pack_blocks.Statement.{statement}
 use Rattle.chain.proofs.pack.pack_blocks.Tie as tie
 
 abbrev Inv-loop : tie.InvT-loop
-Inv-loop file h output₀ k₀ output k = (k ≤ h .count) × (length output ≡ length output₀) × Written file h k output
+Inv-loop file h output₀ k₀ output k = (k ≤ h .stream .count) × (length output ≡ length output₀) × Written file h k output
 
 abbrev μ-loop : tie.MeasureT-loop
 μ-loop file h output₀ k₀ output k = k
 
+abbrev begun : tie.After-struct-known Inv-loop μ-loop → tie.Start Inv-loop μ-loop
+begun c = c .before .before .before .before
+
 loop-holds : tie.Need-loop-holds Inv-loop μ-loop
 loop-holds c =
-    let s = c .before .before .before in
+    let s = begun c in
     let a = s .args in (
       omega arith,
       refl,
-      none-written (a .file .now) (a .h) (length (a .output .now)) (planned (a .file .now) (a .h) (length (a .output .now)) (s .pre)) (a .output .now) refl,
+      none-written (a .file .now) (a .h) (length (a .output .now)) (planned (a .file .now) (a .h) (length (a .output .now)) (s .pre))
+          (a .output .now) refl,
     )
 
 pack-block-requires : tie.Need-pack-block-requires Inv-loop μ-loop
 pack-block-requires c κs =
     let l = c .before .before in
-    let s = l .before .before .before .before in
+    let s = begun (l .before) in
     let a = s .args in
     let k = l .loop .k in
     let e : k ≡ k - 1 + 1 = omega (arith, c .before .loop-test .taken) in (
@@ -42,13 +46,10 @@ loop-again c =
     let l = d .before .before .before in
     (omega (arith, l .loop .inv .0), d .pack-block .kept .1 .1 .1 .0 ∙ l .loop .inv .1, d .pack-block .ensures)
 
-same-length : tie.Need-same-length Inv-loop μ-loop
-same-length c = c .before .loop .inv .1
-
 returns : tie.Need-returns Inv-loop μ-loop
 returns c =
     let l = c .before in
-    let a = l .before .before .before .before .args in
+    let a = begun (l .before) .args in
     let z : l .loop .k ≡ 0 = omega (arith, c .loop-test .left) in
     subst (λ (i : ℕ). Written (a .file .now) (a .h) i (l .loop .output)) z (l .loop .inv .2)
 
@@ -64,5 +65,5 @@ pack-blocks-spec =
     pack-block-requires
     (λ c. search needs)
     loop-again
-    same-length
+    (λ c. c .before .loop .inv .1)
     returns)

@@ -3,7 +3,7 @@ use Prim.Native.Nat.{ℕ}
 use borrow.Author.Needs.{needs}
 use native.Mathlib.Omega.{arith}
 use lib.ListN.{length}
-use Rattle.chain.specs.Code.{Linkable}
+use Rattle.chain.specs.Contracts.{Linkable}
 use Rattle.chain.proofs.PackingLaws.{Plan, planned, ids-narrow, linkable, image-packed}
 use Rattle.chain.proofs.pack.pack_image.Statement.{statement}
 use Rattle.chain.proofs.pack.pack_image.Tie as tie
@@ -21,12 +21,12 @@ module _ (c : tie.After-pack-blocks) where
   kept : length (c .pack-blocks .last .1 .1 .0) ≡ n
   kept = c .pack-blocks .kept .1 .1 .0
 
-fill-requires : tie.Need-fill-requires
-fill-requires c κs = let b = c .before .before .before .before .before in omega (arith, plan b .whole, kept b)
+abbrev packed : tie.After-fill-arg → tie.After-pack-blocks
+packed c = let k = c .before in k .before .before .before .before
 
 module _ (c : tie.After-fill) where
   abbrev blocks : tie.After-pack-blocks
-  blocks = c .before .before .before .before .before .before
+  blocks = packed (c .before)
 
   kept-2 : length (c .fill .last .0) ≡ n blocks
   kept-2 = c .fill .kept .0 ∙ kept blocks
@@ -36,7 +36,7 @@ put-fields-requires c κs =
     let f = c .before .before .before in
     let b = blocks f in
     let a = start b .args in
-    (omega (arith, kept-2 f, plan b .whole, plan b .head), plan b .four, ids-narrow (a .file .now) (a .h) (n b) (plan b))
+    (omega (arith, kept-2 f, plan b .image, plan b .head), plan b .four, ids-narrow (a .file .now) (a .h) (n b) (plan b))
 
 put-link-requires : tie.Need-put-link-requires
 put-link-requires c κs =
@@ -45,7 +45,7 @@ put-link-requires c κs =
     let b = blocks f in
     let a = start b .args in
     subst (λ (m : ℕ). Linkable (a .h) 0 36 m) (sym (p .put-fields .kept .1 .0 ∙ kept-2 f))
-    (linkable (a .file .now) (a .h) (n b) (plan b) 0 36 (omega arith) (omega (arith, plan b .whole, plan b .head)))
+    (linkable (a .file .now) (a .h) (n b) (plan b) 0 36 (omega arith) (omega (arith, plan b .head)))
 
 returns : tie.Need-returns
 returns c =
@@ -54,8 +54,8 @@ returns c =
     let f = p .before .before .before .before in
     let b = blocks f in
     let a = start b .args in
-    image-packed (a .file .now) (a .h) (n b) (plan b) (b .pack-blocks .last .1 .1 .0) _ _ _ (kept b) (b .pack-blocks .ensures) (f .fill .ensures)
-    (p .put-fields .ensures) (l .put-link .ensures)
+    image-packed (a .file .now) (a .h) (n b) (plan b) (b .pack-blocks .last .1 .1 .0) _ _ _ (kept b) (b .pack-blocks .ensures)
+    (f .fill .ensures) (p .put-fields .ensures) (l .put-link .ensures)
 
 pub pack-image-spec : {M : Type 1} → statement M
 pack-image-spec =
@@ -64,7 +64,7 @@ pack-image-spec =
     (λ c κs. search needs)
     (λ c. search needs)
     (λ c. search needs)
-    fill-requires
+    (λ c κs. let b = packed c in omega (arith, plan b .image, kept b))
     put-fields-requires
     put-link-requires
     (λ c. search needs)

@@ -23,32 +23,11 @@ module _ (c : tie.After-block-count) where
   blocks : Counted (length (start .args .file .now)) room (c .block-count .result)
   blocks =
       subst (λ (n : ℕ). Counted (length (start .args .file .now)) room n) (sym (c .block-count .ensures))
-      (counted (length (start .args .file .now)) room (omega (arith, is-sum, start .pre .above)) (omega (arith, start .pre .below)) (start .pre .some)
-      (start .pre .small))
+      (counted (length (start .args .file .now)) room (omega (arith, is-sum, start .pre .above)) (omega (arith, start .pre .below))
+      (start .pre .filled) (start .pre .small))
 
-  sum-small : sumLength (start .args .ids) ≤ 256
-  sum-small = sumLength-four (start .args .ids) (start .good .1 .0 .1 .0 .1)
-
-cast-t10 : tie.Need-cast-t10
-cast-t10 c = omega (arith, blocks c .each, blocks c .small)
-
-cast-t14 : tie.Need-cast-t14
-cast-t14 c = omega (arith, is-sum c, sum-small c)
-
-cast-t15 : tie.Need-cast-t15
-cast-t15 c = omega (arith, is-sum c, sum-small c)
-
-mul-t16 : tie.Need-mul-t16
-mul-t16 c = omega (arith, blocks c .small)
-
-sub-t17 : tie.Need-sub-t17
-sub-t17 c = blocks c .holds
-
-cast-t18 : tie.Need-cast-t18
-cast-t18 c = omega (arith, blocks c .small)
-
-returns : tie.Need-returns
-returns c = rw (c .block-count .ensures, is-sum c)
+  sum-small : c .before .sum-length .result ≤ 256
+  sum-small = omega (arith, is-sum, sumLength-four (start .args .ids) (start .good .1 .0 .1 .0 .1))
 
 pub packed-header-spec : {M : Type 1} → statement M
 packed-header-spec =
@@ -57,13 +36,13 @@ packed-header-spec =
     (λ c κs. search needs)
     (λ c. search needs)
     (λ c κs. search needs)
-    cast-t10
+    (λ c. omega (arith, blocks c .each, blocks c .small))
+    (λ c. search needs)
+    (λ c. omega (arith, sum-small c))
+    (λ c. omega (arith, blocks c .small))
+    (λ c. blocks c .holds)
+    (λ c. omega (arith, blocks c .small))
     (λ c. search needs)
     (λ c. search needs)
-    (λ c. search needs)
-    cast-t14
-    cast-t15
-    mul-t16
-    sub-t17
-    cast-t18
-    returns)
+    (λ c. omega (arith, sum-small c))
+    (λ c. rw (c .block-count .ensures, is-sum c)))

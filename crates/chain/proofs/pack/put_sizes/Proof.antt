@@ -11,7 +11,7 @@ returns c =
     let d₃ = d₄ .before .before .before .before in
     let d₂ = d₃ .before .before .before .before in
     let d₁ = d₂ .before .before .before .before in
-    let s = d₁ .before .before .before in
+    let s = d₁ .before .before .before .before in
     sizes-written (s .args .output .now) (s .pre) (s .args .h) _ _ _ _ _ _ (d₁ .put-little4 .ensures) (d₂ .put-little42 .ensures)
     (d₃ .put-little43 .ensures) (d₄ .put-little44 .ensures) (d₅ .put-little2 .ensures) (d₆ .put-little22 .ensures)
 

@@ -1,11 +1,12 @@
-use mathlib.Core.Path.{_≡_, refl, sym, ap, _∙_}
 use mathlib.Core.List.{List, _++_}
+use mathlib.Core.Path.{_≡_, sym, _∙_}
 use borrow.Author.Needs.{needs}
 use lib.ListN.{length}
-use Rattle.answers.specs.Rules.{Rule, sizeRules}
+use Rattle.answers.specs.Rules.{Rule, firstBroken, sizeRules}
+use Rattle.answers.proofs.RuleLaws.{refuses, goes-on}
 use Rattle.board.specs.Cpuid.{tableRules}
-use Rattle.board.specs.Map.{mapRules, modeRules}
-use Rattle.machine.proofs.BareCode.{rules-first, rules-then}
+use Rattle.board.specs.Map.{mapRules}
+use Rattle.board.specs.Reach.{modeRules}
 use Rattle.machine.proofs.bare.bare_code.Statement.{statement}
 use Rattle.machine.proofs.bare.bare_code.Tie as tie
 
@@ -22,44 +23,61 @@ module _ (s : tie.Start) where
   abbrev tables : List Rule
   tables = tableRules (s .args .table .now)
 
-first : tie.Need-returns
-first c =
-    let s = c .before .before .before .before .before in
-    let e = c .before .mode-code .ensures in
-    e ∙ rules-first (modes s) (sizes s ++ (maps s ++ tables s)) tt (λ z. c .if1 .taken (e ∙ z))
+  abbrev all : List Rule
+  all = modes ++ (sizes ++ (maps ++ tables))
 
-second : tie.Need-returns-2
-second c =
-    let s = c .before .before .before .before .before .before .before in
-    let e = c .before .size-code .ensures in
-    e ∙ rules-first (sizes s) (maps s ++ tables s) tt (λ z. c .if2 .taken (e ∙ z))
-    ∙ rules-then (modes s) (sizes s ++ (maps s ++ tables s)) tt (sym (c .before .before .before .mode-code .ensures) ∙ c .before .before .if1 .left)
+-- the mode has passed, then the size, then the map
+module _ (e : tie.Else1) where
+  abbrev start : tie.Start
+  start = let k = e .before in k .before .before .before .before
 
-third : tie.Need-returns-3
-third c =
-    let s = c .before .before .before .before .before .before .before .before .before in
-    let e = c .before .map-code .ensures in
-    e ∙ rules-first (maps s) (tables s) tt (λ z. c .if3 .taken (e ∙ z))
-    ∙ rules-then (sizes s) (maps s ++ tables s) tt (sym (c .before .before .before .size-code .ensures) ∙ c .before .before .if2 .left)
-    ∙ rules-then (modes s) (sizes s ++ (maps s ++ tables s)) tt (sym (c .before .before .before .before .before .mode-code .ensures) ∙ c .before .before .before .before .if1 .left)
+  sizes-next : firstBroken (all start) ≡ firstBroken (sizes start ++ (maps start ++ tables start))
+  sizes-next = goes-on (modes start) (sizes start ++ (maps start ++ tables start)) _ tt (e .before .mode-code .ensures) (e .if1 .left)
 
-last : tie.Need-returns-4
-last c =
-    let s = c .before .before .before .before .before .before .before .before .before .before in
-    c .table-code .ensures
-    ∙ rules-then (maps s) (tables s) tt (sym (c .before .before .map-code .ensures) ∙ c .before .if3 .left)
-    ∙ rules-then (sizes s) (maps s ++ tables s) tt (sym (c .before .before .before .before .size-code .ensures) ∙ c .before .before .before .if2 .left)
-    ∙ rules-then (modes s) (sizes s ++ (maps s ++ tables s)) tt (sym (c .before .before .before .before .before .before .mode-code .ensures) ∙ c .before .before .before .before .before .if1 .left)
+module _ (e : tie.Else2) where
+  abbrev second : tie.Start
+  second = start (e .before .before)
+
+  maps-next : firstBroken (all second) ≡ firstBroken (maps second ++ tables second)
+  maps-next =
+      sizes-next (e .before .before)
+      ∙ goes-on (sizes second) (maps second ++ tables second) _ tt (e .before .size-code .ensures) (e .if2 .left)
+
+module _ (e : tie.Else3) where
+  abbrev third : tie.Start
+  third = second (e .before .before)
+
+  tables-next : firstBroken (all third) ≡ firstBroken (tables third)
+  tables-next =
+      maps-next (e .before .before) ∙ goes-on (maps third) (tables third) _ tt (e .before .map-code .ensures) (e .if3 .left)
+
+mode-refused : tie.Need-returns
+mode-refused c =
+    let k = c .before in
+    let s = k .before .before .before .before in
+    refuses (modes s) (sizes s ++ (maps s ++ tables s)) _ tt (k .mode-code .ensures) (c .if1 .taken)
+
+size-refused : tie.Need-returns-2
+size-refused c =
+    let e = c .before .before in
+    let s = start e in
+    refuses (sizes s) (maps s ++ tables s) _ tt (c .before .size-code .ensures) (c .if2 .taken) ∙ sym (sizes-next e)
+
+map-refused : tie.Need-returns-3
+map-refused c =
+    let e = c .before .before in
+    let s = second e in
+    refuses (maps s) (tables s) _ tt (c .before .map-code .ensures) (c .if3 .taken) ∙ sym (maps-next e)
 
 pub bare-code-spec : {M : Type 1} → statement M
 bare-code-spec =
     tie.close
     (tie.spec
     (λ c κs. search needs)
-    first
+    mode-refused
     (λ c κs. search needs)
-    second
+    size-refused
     (λ c κs. search needs)
-    third
+    map-refused
     (λ c κs. search needs)
-    last)
+    (λ c. c .table-code .ensures ∙ sym (tables-next (c .before))))

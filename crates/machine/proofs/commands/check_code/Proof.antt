@@ -1,55 +1,63 @@
-use mathlib.Core.Path.{_≡_, sym, ap, _∙_}
-use Prim.Native.Nat.{ℕ, _/_}
+use mathlib.Core.Bool.{true, false}
+use mathlib.Core.Path.{_≡_, sym, _∙_}
 use native.Mathlib.Omega.{arith}
 use borrow.Author.Needs.{needs}
 use borrow.Author.Tests.{not-true, not-false}
+use lib.Dec.{eqb}
 use lib.ListN.{length, getD}
 use Rattle.octets.proofs.NumberLaws.{one-byte}
-use Rattle.board.specs.Board.{boardOf}
-use Rattle.board.specs.Cpuid.{leaf, lookup, leaves}
-use Rattle.board.specs.declared.Found.{Found}
-use Rattle.board.proofs.RunLaws.{length-records}
-use Rattle.machine.specs.Code.{foundCode}
-use Rattle.machine.specs.Commands.{eax, ecx, value, mask, resultRegister}
+use Rattle.answers.specs.Rules.{firstBroken}
+use Rattle.board.specs.Cpuid.{leaves}
+use Rattle.machine.specs.Commands.{hasZero, foundRules, text, resultRegister}
 use Rattle.machine.proofs.CodeLaws.{text-open, no-instruction, no-register, by-record}
 use Rattle.machine.proofs.commands.check_code.Statement.{statement}
 use Rattle.machine.proofs.commands.check_code.Tie as tie
 
-returns : tie.Need-returns
-returns c map mode =
+open-text : tie.Need-returns
+open-text c =
     let z = c .before in
     let a = z .before .before .before .before .args in
-    text-open (boardOf map (a .table .now) mode) (a .c .now) (sym (z .has-zero .ensures) ∙ not-true _ (c .if1 .taken))
+    text-open (leaves (a .table .now)) (a .c .now) (sym (z .has-zero .ensures) ∙ not-true _ (c .if1 .taken))
 
-returns-2 : tie.Need-returns-2
-returns-2 c map mode =
-    let z = c .before .before in
-    let a = z .before .before .before .before .args in
-    no-instruction (boardOf map (a .table .now) mode) (a .c .now) (sym (z .has-zero .ensures) ∙ not-false _ (c .before .if1 .left))
-    (length-records (leaf (a .table .now)) 0 (length (a .table .now) / 24) ∙ c .if2 .taken)
+-- the text has a zero
+module _ (e : tie.Else1) where
+  abbrev start : tie.Start
+  start = let z = e .before in z .before .before .before .before
 
-returns-3 : tie.Need-returns-3
-returns-3 c map mode =
-    let t = c .before .before in
-    let z = t .before .before in
-    let s = z .before .before .before .before in
-    let a = s .args in
-    let n = length-records (leaf (a .table .now)) 0 (length (a .table .now) / 24) in
-    no-register (boardOf map (a .table .now) mode) (a .c .now) (sym (z .has-zero .ensures) ∙ not-false _ (t .before .if1 .left))
-    (λ e. t .if2 .left (sym n ∙ e)) (omega (arith, one-byte (a .c .now) 32 (omega (arith, s .pre)), c .if3 .taken))
+  closed : hasZero (text (start .args .c .now)) ≡ true
+  closed = sym (e .before .has-zero .ensures) ∙ not-false _ (e .if1 .left)
 
-returns-4 : tie.Need-returns-4
-returns-4 c map mode =
+missing : tie.Need-returns-2
+missing c =
+    let e = c .before .before in
+    no-instruction (leaves (start e .args .table .now)) (start e .args .c .now) (closed e)
+    (not-false _ (sym (c .before .is-available .ensures) ∙ not-true _ (c .if2 .taken)))
+
+-- and the unit has the instruction
+module _ (i : tie.Else2) where
+  abbrev came : tie.Start
+  came = start (i .before .before)
+
+  available : eqb (length (leaves (came .args .table .now))) 0 ≡ false
+  available = not-true _ (sym (i .before .is-available .ensures) ∙ not-false _ (i .if2 .left))
+
+  register : getD (came .args .c .now) 32 0 ≡ resultRegister (came .args .c .now)
+  register = one-byte (came .args .c .now) 32 (omega (arith, came .pre))
+
+no-such : tie.Need-returns-3
+no-such c =
+    let i = c .before .before in
+    no-register (leaves (came i .args .table .now)) (came i .args .c .now) (closed (i .before .before)) (available i)
+    (omega (arith, register i, c .if3 .taken))
+
+looked-up : tie.Need-returns-4
+looked-up c =
     let l = c .before .before .before in
-    let t = l .before .before .before in
-    let z = t .before .before in
-    let s = z .before .before .before .before in
-    let a = s .args in
-    let n = length-records (leaf (a .table .now)) 0 (length (a .table .now) / 24) in
+    let i = l .before .before .before in
     c .found-code .ensures
-    ∙ (λ i. foundCode (l .looked-up .ensures i) (c .before .before .little4 .ensures i) (c .before .little42 .ensures i))
-    ∙ by-record (boardOf map (a .table .now) mode) (a .c .now) (sym (z .has-zero .ensures) ∙ not-false _ (t .before .if1 .left))
-    (λ e. t .if2 .left (sym n ∙ e)) (omega (arith, one-byte (a .c .now) 32 (omega (arith, s .pre)), l .before .if3 .left))
+    ∙ (λ j. firstBroken (foundRules (l .looked-up .ensures j) (c .before .before .little4 .ensures j) (c .before .little42 .ensures j)))
+    ∙ by-record (leaves (came i .args .table .now)) (came i .args .c .now) (closed (i .before .before)) (available i)
+    (omega (arith, register i, l .before .if3 .left))
 
 pub check-code-spec : {M : Type 1} → statement M
 check-code-spec =
@@ -59,12 +67,13 @@ check-code-spec =
     (λ c. search needs)
     (λ c. search needs)
     (λ c κs. search needs)
-    returns
-    returns-2
-    (λ c. search needs)
-    returns-3
-    (λ c κs. omega (arith, c .before .before .before .before .before .before .before .before .pre))
-    (λ c κs. omega (arith, c .before .before .before .before .before .before .before .before .before .pre))
-    (λ c κs. omega (arith, c .before .before .before .before .before .before .before .before .before .before .pre))
+    open-text
     (λ c κs. search needs)
-    returns-4)
+    missing
+    (λ c. search needs)
+    no-such
+    (λ c κs. omega (arith, came (c .before .before) .pre))
+    (λ c κs. omega (arith, came (c .before .before .before) .pre))
+    (λ c κs. omega (arith, came (c .before .before .before .before) .pre))
+    (λ c κs. search needs)
+    looked-up)

@@ -1,4 +1,4 @@
-use mathlib.Core.Path.{_≡_, sym, _∙_}
+use mathlib.Core.Path.{sym, _∙_}
 use borrow.Author.Needs.{needs}
 use borrow.Author.Tests.{not-true, not-false}
 use Rattle.machine.proofs.commands.entry_code.Statement.{statement}
@@ -9,5 +9,5 @@ entry-code-spec =
     tie.close
     (tie.spec
     (λ c κs. search needs)
-    (λ c map table. simp (sym (c .before .reaches .ensures) ∙ not-true _ (c .if1 .taken)))
-    (λ c map table. simp (sym (c .before .reaches .ensures) ∙ not-false _ (c .if1 .left))))
+    (λ c. simp (sym (c .before .reaches .ensures) ∙ not-true _ (c .if1 .taken)))
+    (λ c. simp (sym (c .before .reaches .ensures) ∙ not-false _ (c .if1 .left))))

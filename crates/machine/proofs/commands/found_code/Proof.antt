@@ -1,23 +1,16 @@
 use mathlib.Core.Path.{_≡_, sym, ap, _∙_}
 use borrow.Author.Needs.{needs}
-use Rattle.machine.specs.Code.{foundCode}
-use Rattle.machine.proofs.CodeLaws.{check-holds, check-fails}
+use borrow.Author.Tests.{eq-eqb, ne-eqb}
+use Rattle.answers.specs.Rules.{firstBroken}
 use Rattle.board.specs.declared.Found.{Found}
+use Rattle.machine.specs.Commands.{foundRules}
 use Rattle.machine.proofs.commands.found_code.Statement.{statement}
 use Rattle.machine.proofs.commands.found_code.Tie as tie
 
-returns : tie.Need-returns
-returns c =
-    let a = c .before .before .before .before .args in
-    check-holds (a .mask) (a .value) _ (c .before .before .found .given .1) (c .if1 .taken)
-
-returns-2 : tie.Need-returns-2
-returns-2 c =
-    let a = c .before .before .before .before .args in
-    check-fails (a .mask) (a .value) _ (c .before .before .found .given .1) (c .if1 .left)
-
-returns-3 : tie.Need-returns-3
-returns-3 c = sym (ap (λ (f : Found). foundCode f (c .before .before .args .mask) (c .before .before .args .value)) (c .enum-told .given .1))
+same : (s : tie.Start) {f : Found} → s .args .found ≡ f
+    → firstBroken (foundRules (s .args .found) (s .args .mask) (s .args .value))
+    ≡ firstBroken (foundRules f (s .args .mask) (s .args .value))
+same s e = ap (λ (f : Found). firstBroken (foundRules f (s .args .mask) (s .args .value))) e
 
 pub found-code-spec : {M : Type 1} → statement M
 found-code-spec =
@@ -25,6 +18,6 @@ found-code-spec =
     (tie.spec
     (λ c. search needs)
     (λ c. search needs)
-    returns
-    returns-2
-    returns-3)
+    (λ c. sym (same (c .before .before .before .before) (c .before .before .found .given .1) ∙ simp (eq-eqb _ _ (c .if1 .taken))))
+    (λ c. sym (same (c .before .before .before .before) (c .before .before .found .given .1) ∙ simp (ne-eqb _ _ (c .if1 .left))))
+    (λ c. search needs))

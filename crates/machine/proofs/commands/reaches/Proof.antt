@@ -1,7 +1,7 @@
-use mathlib.Core.Path.{_≡_, ap, _∙_}
+use mathlib.Core.Path.{ap, _∙_}
 use Prim.Native.Nat.{ℕ}
 use borrow.Author.Needs.{needs}
-use Rattle.board.specs.Map.{reachable}
+use Rattle.board.specs.Reach.{reachable}
 use Rattle.machine.proofs.commands.reaches.Statement.{statement}
 use Rattle.machine.proofs.commands.reaches.Tie as tie
 

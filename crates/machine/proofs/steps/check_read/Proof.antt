@@ -1,53 +1,51 @@
-use mathlib.Core.Path.{_≡_, refl, sym, ap, _∙_}
+use mathlib.Core.Path.{_≡_, sym, ap, _∙_}
 use mathlib.Core.List.{List}
 use Prim.Native.Nat.{ℕ}
 use native.Mathlib.Omega.{arith}
 use borrow.Author.Needs.{needs}
 use lib.Seq.{take-all}
 use Rattle.answers.specs.Rules.{firstBroken}
-use Rattle.board.specs.Board.{boardOf}
-use Rattle.machine.specs.Bare.{jobOf}
+use Rattle.board.specs.Cpuid.{leaves}
 use Rattle.machine.specs.Code.{stateOf}
 use Rattle.machine.specs.Commands.{checkRules}
-use Rattle.machine.specs.Machine.{Job, State}
+use Rattle.machine.specs.Machine.{State}
 use Rattle.machine.specs.Machine as spec
-use Rattle.machine.proofs.CodeLaws.{check-stops, check-passes}
+use Rattle.machine.proofs.CodeLaws.{judged-stops, judged-goes}
 use Rattle.machine.proofs.steps.check_read.Statement.{statement}
 use Rattle.machine.proofs.steps.check_read.Tie as tie
 
-module _ (k : tie.After-check-code) (map : List ℕ) (mode : ℕ) where
-  abbrev read : tie.Start
-  read = k .before .before .before
-
-  abbrev job : Job
-  job = jobOf (read .args .size) map (read .args .table .now) mode
+module _ (k : tie.After-check-code) where
+  abbrev start : tie.Start
+  start = k .before .before .before
 
   abbrev state : State
-  state = stateOf (read .args .c) (read .args .held .now)
+  state = stateOf (start .args .c) (start .args .gathered .now)
 
-  rules : k .check-code .result ≡ firstBroken (checkRules (job .unit) (state .held))
+  -- what is gathered is all of what is lent
+  rules : k .check-code .result ≡ firstBroken (checkRules (leaves (start .args .table .now)) (state .gathered))
   rules =
-      k .check-code .ensures map mode
-      ∙ ap (λ (h : List ℕ). firstBroken (checkRules (job .unit) h)) (sym (take-all (read .args .c .kept) (read .args .held .now) (omega arith)))
+      k .check-code .ensures
+      ∙ ap (λ (h : List ℕ). firstBroken (checkRules (leaves (start .args .table .now)) h))
+      (sym (take-all (start .args .c .kept) (start .args .gathered .now) (omega (arith, start .pre .0 .room, start .pre .0 .kept))))
 
 refuses : tie.Need-returns
-refuses c map mode =
+unfolding spec.checkRead
+refuses c =
     let k = c .before .before in
-    check-stops (job k map mode) (state k map mode) (rules k map mode) (c .before .if1 .taken)
-    ∙ ap spec.still (sym (c .refused .ensures _))
+    judged-stops (state k) (rules k) _ (c .before .if1 .taken) ∙ ap spec.noStores (sym (c .refused .ensures _))
 
 passes : tie.Need-returns-2
-passes c map mode =
+unfolding spec.checkRead
+passes c =
     let k = c .before .before in
-    check-passes (job k map mode) (state k map mode) (rules k map mode) (c .before .if1 .left)
-    ∙ ap spec.still (sym (c .finished .ensures (job k map mode .unit) _))
+    judged-goes (state k) (rules k) _ (c .before .if1 .left) ∙ ap spec.noStores (sym (c .finished .ensures _))
 
 pub check-read-spec : {M : Type 1} → statement M
 check-read-spec =
     tie.close
     (tie.spec
-    (λ c κs. search needs)
+    (λ c κs. c .before .before .pre .0 .room)
     (λ c κs. search needs)
     refuses
-    (λ c κs. (c .before .before .before .before .pre .2 .inside, c .before .before .before .before .pre .2 .commands))
+    (λ c κs. (start (c .before) .pre .1 .inside, start (c .before) .pre .1 .commands))
     passes)

@@ -1,102 +1,113 @@
 use mathlib.Core.Bool.{true}
-use mathlib.Core.Path.{_≡_, refl, sym, ap, _∙_}
-use mathlib.Core.List.{List, []}
-use Prim.Native.Nat.{ℕ, _+_, _≤_}
+use mathlib.Core.Path.{_≡_, sym, ap, _∙_}
+use Prim.Native.Nat.{ℕ, _≤_}
 use native.Mathlib.Omega.{arith}
 use borrow.Author.Needs.{needs}
-use lib.ListN.{length, length-replicate}
+use lib.ListN.{length, getD}
 use Rattle.octets.proofs.NumberLaws.{one-byte}
-use Rattle.board.specs.Board.{boardOf}
-use Rattle.board.specs.Map.{regions, ram, offset}
-use Rattle.machine.specs.Bare.{jobOf}
+use Rattle.board.specs.Map.{regions, ram}
+use Rattle.board.specs.Reach.{limit}
 use Rattle.machine.specs.Code.{stateOf}
-use Rattle.machine.specs.Commands.{address, fillCount}
-use Rattle.machine.specs.Machine.{Job, State}
+use Rattle.machine.specs.Commands.{address, fillCount, pattern}
+use Rattle.machine.specs.Machine.{State}
 use Rattle.machine.specs.Machine as spec
 use Rattle.machine.specs.declared.Tally.{Tally}
-use Rattle.machine.proofs.CodeLaws.{field, fill-stops, fill-stores, done-still, done-block, range-ram, range-fits}
+use Rattle.machine.proofs.CodeLaws.{field, fill-stops, fill-stores, done-noStores, done-same, range-ram, range-fits}
 use Rattle.machine.proofs.steps.fill_read.Statement.{statement}
 use Rattle.machine.proofs.steps.fill_read.Tie as tie
 
 module _ (k : tie.After-range-code) where
-  abbrev read : tie.Start
-  read = k .before .before .before .before .before .before
+  abbrev first : tie.After-little8
+  first = k .before .before
 
-  abbrev job : List ℕ → Job
-  job table = jobOf (read .args .size) (read .args .map .now) table (read .args .mode)
+  abbrev start : tie.Start
+  start = first .before .before .before .before
 
   abbrev state : State
-  state = stateOf (read .args .c) (read .args .held .now)
+  state = stateOf (start .args .c) (start .args .gathered .now)
 
-  at : k .before .before .little8 .result ≡ address (state .held)
-  at = field (read .args .held .now) (read .args .c .kept) 16 8 (omega (arith, read .pre .0)) (k .before .before .little8 .ensures)
+  at : first .little8 .result ≡ address (state .gathered)
+  at =
+      field (start .args .gathered .now) (start .args .c .kept) 16 8 (omega (arith, start .pre .0 .kept))
+      (first .little8 .ensures)
 
-  few : k .before .little82 .result ≡ fillCount (state .held)
-  few = field (read .args .held .now) (read .args .c .kept) 24 8 (omega (arith, read .pre .0)) (k .before .little82 .ensures)
+  long : k .before .little82 .result ≡ fillCount (state .gathered)
+  long = field (start .args .gathered .now) (start .args .c .kept) 24 8 (omega (arith, start .pre .0 .kept)) (k .before .little82 .ensures)
 
--- the range lies in memory
+  byte : getD (start .args .gathered .now) 32 0 ≡ pattern (state .gathered)
+  byte =
+      field (start .args .gathered .now) (start .args .c .kept) 32 1 (omega (arith, start .pre .0 .kept))
+      (one-byte (start .args .gathered .now) 32 (omega (arith, start .pre .0 .room)))
+
+-- the range is RAM, and so lies in memory
 module _ (e : tie.Else1) where
-  inside : ram (regions (read (e .before) .args .map .now)) (e .before .before .before .little8 .result) (e .before .before .little82 .result) ≡ true
-  inside =
-      range-ram (job (e .before) [] .unit) (e .before .before .before .little8 .result) (e .before .before .little82 .result)
-      (e .before .range-code .ensures []) (e .if1 .left)
+  abbrev came : tie.Start
+  came = start (e .before)
 
-  room : offset (regions (read (e .before) .args .map .now)) (e .before .before .before .little8 .result) + e .before .before .little82 .result
-      ≤ length (read (e .before) .args .memory .now)
-  room =
-      range-fits (read (e .before) .args .map .now) (read (e .before) .args .memory .now) (read (e .before) .pre .3)
-      (e .before .before .before .little8 .result) (e .before .before .little82 .result) inside
+  abbrev count : ℕ
+  count = e .before .before .little82 .result
+
+  inside : ram (regions (came .args .map .now)) (first (e .before) .little8 .result) count ≡ true
+  inside =
+      range-ram (regions (came .args .map .now)) (limit (came .args .job .mode)) (first (e .before) .little8 .result) count
+      (e .before .range-code .ensures) (e .if1 .left)
+
+  small : count ≤ length (came .args .memory .now)
+  small = omega (arith, range-fits (came .args .map .now) (came .args .memory .now) (came .pre .2) _ count inside)
 
 refuses : tie.Need-returns
-refuses c table =
+refuses c =
     let k = c .before .before in
-    done-still _ _ _
-    (fill-stops (job k table) (state k) (at k) (few k) (k .range-code .ensures table) (c .before .if1 .taken)
-    ∙ ap spec.still (sym (c .refused .ensures _)))
+    let a = start k .args in
+    done-noStores _ _ _
+    (fill-stops (a .job) (regions (a .map .now)) (state k) (at k) (long k) (k .range-code .ensures) (c .before .if1 .taken)
+    ∙ ap spec.noStores (sym (c .refused .ensures _)))
 
-fits : tie.Need-fill-requires
-fits c κs = omega (arith, c .before .before .offset .ensures, room (c .before .before .before))
+-- the bytes are stored
+module _ (k : tie.After-slice-known2) where
+  abbrev stored : tie.After-fill
+  stored = k .before .before
 
-stores : tie.Need-with-stored-requires
-stores c κs =
-    let e = c .before .before .before .before .before .before in
-    let s = read (e .before) in
-    omega (arith, s .pre .2 .stored, s .pre .3 .few, room e)
+  abbrev passed : tie.Else1
+  passed = stored .before .before .before
+
+room : tie.Need-with-stored-requires
+room c κs =
+    let s = came (passed c) in
+    omega (arith, s .pre .1 .stored, s .pre .2 .small, small (passed c))
 
 counted : tie.Need-finished-requires
 counted c κs =
-    let s = c .before .before .before .before .before .before .before .before .before .before .before .before .before .before .before in
-    let n = c .tallied .ensures .1 in
-    let t = ap (λ (x : Tally). x .commands) (c .tallied .ensures .2 ∙ c .before .with-stored .ensures) in
-    (omega (arith, n, s .pre .2 .inside), omega (arith, t, s .pre .2 .commands))
+    let s = came (passed (c .before)) in
+    (s .pre .1 .inside, omega (arith, ap (λ (t : Tally). t .commands) (c .with-stored .ensures), s .pre .1 .commands))
 
 fills : tie.Need-returns-2
-fills c table =
-    let e = c .before .before .before .before .before .before .before .before .before in
+fills c =
+    let w = c .before in
+    let e = passed (w .before) in
     let k = e .before in
-    let s = read k in
-    let a = s .args in
-    done-block (a .map .now) (a .memory .now) (s .pre .3) _ _
-    (fill-stores (job k table) (state k) (at k) (few k) (k .range-code .ensures table)
-    (field (a .held .now) (a .c .kept) 32 1 (omega (arith, s .pre .0)) (one-byte (a .held .now) 32 (omega (arith, s .pre .1)))) (e .if1 .left))
-    (c .finished .ensures (boardOf (a .map .now) table (a .mode)) _
-    ∙ ap (spec.finished (job k table)) (c .before .tallied .ensures .0 _ ∙ ap (λ (t : Tally). spec.tallied t (state k)) (c .before .before .with-stored .ensures)))
-    (rw length-replicate (inside e)) (c .before .before .before .before .before .before .before .before .offset .ensures) (c .before .before .before .before .before .fill .ensures)
+    let a = came e .args in
+    done-same
+    (fill-stores (a .job) (regions (a .map .now)) (state k) (at k) (long k) (k .range-code .ensures) (byte k) (e .if1 .left))
+    (record {
+      state =
+          c .finished .ensures _
+          ∙ ap (λ (t : Tally). spec.finished (a .job .length) (spec.tallied t (state k))) (w .with-stored .ensures);
+      memory = stored (w .before) .fill .ensures;
+    })
 
 pub fill-read-spec : {M : Type 1} → statement M
 fill-read-spec =
     tie.close
     (tie.spec
-    (λ c κs. omega (arith, c .before .before .before .pre .1))
-    (λ c κs. omega (arith, c .before .before .before .before .pre .1))
-    (λ c κs. c .before .before .before .before .before .pre .3 .order)
+    (λ c κs. omega (arith, c .before .before .before .pre .0 .room))
+    (λ c κs. omega (arith, c .before .before .before .before .pre .0 .room))
+    (λ c κs. let f = c .before in f .before .before .before .before .pre .2 .order)
     (λ c κs. search needs)
     refuses
-    (λ c κs. c .before .before .before .before .before .before .before .pre .3 .order)
-    (λ c. omega (arith, c .before .before .before .before .before .before .before .before .before .before .pre .1))
-    fits
-    stores
-    (λ c κs. search needs)
+    (λ c. omega (arith, came (c .before) .pre .0 .room))
+    (λ c κs. let e = c .before .before in (came e .pre .2, inside e))
+    room
     counted
     (λ c. search needs)
     fills)

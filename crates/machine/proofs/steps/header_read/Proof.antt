@@ -1,55 +1,52 @@
-use mathlib.Core.Path.{_≡_, refl, sym, ap, _∙_}
+use mathlib.Core.Path.{_≡_, sym, ap, _∙_}
 use native.Mathlib.Omega.{arith}
 use borrow.Author.Needs.{needs}
-use Rattle.board.specs.Board.{Board}
-use Rattle.machine.specs.Code.{stateOf, jobOn}
-use Rattle.machine.specs.Commands.{command, commandOf, dataLength}
-use Rattle.machine.specs.Machine.{Job, State}
+use Rattle.machine.specs.Code.{stateOf}
+use Rattle.machine.specs.Commands.{commandId, dataLength}
+use Rattle.machine.specs.Machine.{State}
 use Rattle.machine.specs.Machine as spec
-use Rattle.machine.proofs.CodeLaws.{field, header-stops, header-passes}
+use Rattle.machine.specs.declared.Named.{Named}
+use Rattle.machine.proofs.CodeLaws.{field, header-by}
 use Rattle.machine.proofs.steps.header_read.Statement.{statement}
 use Rattle.machine.proofs.steps.header_read.Tie as tie
 
-module _ (k : tie.After-header-code) (unit : Board) where
-  abbrev read : tie.Start
-  read = k .before .before .before .before .before .before
-
-  abbrev job : Job
-  job = jobOn unit (read .args .size)
+module _ (k : tie.After-named) where
+  abbrev start : tie.Start
+  start = k .before .before .before .before
 
   abbrev state : State
-  state = stateOf (read .args .c) (read .args .held .now)
+  state = stateOf (start .args .c) (start .args .gathered .now)
 
-  id : k .before .before .before .command-of .result ≡ commandOf (state .held)
-  id =
-      k .before .before .before .command-of .ensures
-      ∙ ap command (field (read .args .held .now) (read .args .c .kept) 0 2 (omega arith) (k .before .before .before .before .little2 .ensures))
+  id : k .before .little2 .result ≡ commandId (state .gathered)
+  id = field (start .args .gathered .now) (start .args .c .kept) 0 2 (omega (arith, start .pre .0 .kept)) (k .before .little2 .ensures)
 
-  long : k .before .before .little8 .result ≡ dataLength (state .held)
-  long = field (read .args .held .now) (read .args .c .kept) 8 8 (omega arith) (k .before .before .little8 .ensures)
+  long : k .before .before .little8 .result ≡ dataLength (state .gathered)
+  long =
+      field (start .args .gathered .now) (start .args .c .kept) 8 8 (omega (arith, start .pre .0 .kept))
+      (k .before .before .little8 .ensures)
 
-returns : tie.Need-returns
-returns c unit =
-    let k = c .before .before in
-    header-stops (job k unit) (state k unit) (id k unit) (long k unit) (k .header-code .ensures) (c .before .if1 .taken)
-    ∙ ap spec.still (sym (c .refused .ensures _))
+  -- what the header says, by what its ID names
+  says : {w : Named} → k .named .result ≡ w
+      → spec.headerRead (start .args .length) state ≡ spec.headerSays w (start .args .length) (k .before .before .little8 .result) state
+  says e = header-by (start .args .length) state id long (sym (k .named .ensures) ∙ e)
 
-returns-2 : tie.Need-returns-2
-returns-2 c unit =
-    let k = c .before .before in
-    header-passes (job k unit) (state k unit) (id k unit) (long k unit) (k .header-code .ensures) (c .before .if1 .left)
-    ∙ ap spec.still (sym (c .passed .ensures unit _))
+refuses : tie.Need-returns-3
+unfolding spec.headerSays
+refuses c = says (c .before .before .before) (c .before .enum-told2 .given .1) ∙ ap spec.noStores (sym (c .refused .ensures _))
 
 pub header-read-spec : {M : Type 1} → statement M
 header-read-spec =
     tie.close
     (tie.spec
-    (λ c κs. search needs)
-    (λ c κs. search needs)
+    (λ c κs. omega (arith, c .before .pre .0 .room))
+    (λ c κs. omega (arith, c .before .before .pre .0 .room))
     (λ c κs. search needs)
     (λ c. search needs)
+    (λ c κs. start (c .before .before .before) .pre .1)
+    (λ c. search needs)
+    (λ c κs. start (c .before .before) .pre .1)
+    (λ c. search needs)
     (λ c κs. search needs)
-    (λ c κs. search needs)
-    returns
-    (λ c κs. search needs)
-    returns-2)
+    (λ c. says (c .before .before .before .before) (c .before .before .name .given .1) ∙ c .known-read .ensures _)
+    (λ c. says (c .before .before .before) (c .before .enum-told .given .1) ∙ c .skipped-read .ensures _)
+    refuses)

@@ -1,93 +1,84 @@
-use mathlib.Core.Path.{_≡_, refl, sym, ap, _∙_}
-use Prim.Native.Nat.{ℕ, _+_}
-use native.Mathlib.Omega.{arith}
+use mathlib.Core.Bool.{false}
+use mathlib.Core.Path.{_≡_, sym, ap, _∙_}
+use Prim.Native.Nat.{_+_}
 use borrow.Author.Needs.{needs}
-use Rattle.board.specs.Map.{regions}
-use Rattle.machine.specs.Bare.{jobOf}
-use Rattle.machine.specs.Code.{stateOf, Done}
-use Rattle.machine.specs.Commands.{commandOf, judgedBytes}
-use Rattle.machine.specs.Machine.{Job, State}
+use borrow.Author.Tests.{ltb-false}
+use Rattle.machine.specs.Code.{stateOf}
+use Rattle.machine.specs.Commands.{dataLength, judgedBytes, wrongLength}
+use Rattle.machine.specs.Contracts.{Gathered}
+use Rattle.machine.specs.Machine.{Setting, State}
 use Rattle.machine.specs.Machine as spec
 use Rattle.machine.specs.declared.Command.{Command}
-use Rattle.machine.proofs.CodeLaws.{done-still, done-same, parameters-are, write-long}
+use Rattle.machine.proofs.CodeLaws.{done-noStores, done-same}
 use Rattle.machine.proofs.steps.parameters_read.Statement.{statement}
 use Rattle.machine.proofs.steps.parameters_read.Tie as tie
 
-module _ (k : tie.After-command-of) {j : Command} (e : k .command-of .result ≡ j) where
-  abbrev read : tie.Start
-  read = k .before .before .before .before .before .before
+-- at the command that is judged
+module _ (m : tie.After-slice-known) {j : Command} (e : m .before .before .before .before .args .k ≡ j) where
+  abbrev start : tie.Start
+  start = m .before .before .before .before
 
-  abbrev job : Job
-  job = jobOf (read .args .size) (read .args .map .now) (read .args .table .now) (read .args .mode)
+  abbrev setting : Setting
+  setting = spec.settingOf (start .args .job) (start .args .map .now) (start .args .table .now)
 
   abbrev state : State
-  state = stateOf (read .args .c) (read .args .held .now)
+  state = stateOf (start .args .c) (start .args .gathered .now)
 
-  all : read .args .c .kept ≡ 16 + judgedBytes j
-  all = parameters-are (read .args .c) (read .args .held .now) (read .pre .0) (read .pre .1) (read .pre .2) (k .before .little2 .ensures) (k .command-of .ensures) e .0
+  all : Gathered (16 + judgedBytes j) (start .args .c) (start .args .gathered .now)
+  all =
+      record {
+        room = start .pre .0 .room;
+        kept = start .pre .0 .kept ∙ ap (λ (k : Command). 16 + judgedBytes k) e;
+      }
 
-  is : commandOf (state .held) ≡ j
-  is = parameters-are (read .args .c) (read .args .held .now) (read .pre .0) (read .pre .1) (read .pre .2) (k .before .little2 .ensures) (k .command-of .ensures) e .1
+  right : wrongLength j (dataLength (state .gathered)) ≡ false
+  right = sym (ap (λ (k : Command). wrongLength k (dataLength (state .gathered))) e) ∙ start .pre .1
 
-  same : spec.parametersRead job (commandOf (state .held)) state ≡ spec.parametersRead job j state
-  same = ap (λ (i : Command). spec.parametersRead job i state) is
+  same : spec.parametersRead (start .args .k) setting state ≡ spec.parametersRead j setting state
+  same = ap (λ (k : Command). spec.parametersRead k setting state) e
 
 write-ready : tie.Need-write-read-requires
 write-ready c κs =
-    let k = c .before .before in
+    let m = c .before .before in
     let e = c .enum-told .given .1 in
-    let s = read k e in
-    (all k e, s .pre .1, s .pre .3, write-long (is k e) (s .pre .2 .right (s .pre .0)), s .pre .4 .order)
+    let s = start m e in
+    (all m e, ltb-false _ 8 (right m e), s .pre .2, s .pre .3 .order)
 
 fill-ready : tie.Need-fill-read-requires
 fill-ready c κs =
-    let k = c .before .before .before in
+    let m = c .before .before .before in
     let e = c .before .enum-told2 .given .1 in
-    let s = read k e in
-    (all k e, s .pre .1, s .pre .3, s .pre .4)
+    (all m e, start m e .pre .2, start m e .pre .3)
 
 entry-ready : tie.Need-entry-read-requires
-entry-ready c κs =
-    let k = c .before .before in
-    let e = c .enum-told3 .given .1 in
-    (all k e, read k e .pre .1, read k e .pre .3)
+entry-ready c κs = let m = c .before .before in let e = c .enum-told3 .given .1 in (all m e, start m e .pre .2)
 
 check-ready : tie.Need-check-read-requires
-check-ready c κs =
-    let k = c .before .before in
-    let e = c .enum-told4 .given .1 in
-    (all k e, read k e .pre .1, read k e .pre .3)
+check-ready c κs = let m = c .before .before in let e = c .enum-told4 .given .1 in (all m e, start m e .pre .2)
 
 written : tie.Need-returns
 unfolding spec.parametersRead
-written c = done-still _ _ _ (same (c .before .before .before) (c .before .enum-told .given .1) ∙ c .write-read .ensures _)
+written c = done-noStores _ _ _ (same (c .before .before .before) (c .before .enum-told .given .1) ∙ c .write-read .ensures)
 
 filled : tie.Need-returns-2
 unfolding spec.parametersRead
-filled c = done-same (same (c .before .before .before .before .before .before) (c .before .before .before .before .enum-told2 .given .1)) (c .before .before .fill-read .ensures _)
+filled c =
+    let f = c .before .before in
+    let e = f .before .before in
+    done-same (same (e .before .before) (e .enum-told2 .given .1)) (f .fill-read .ensures)
 
 entered : tie.Need-returns-3
 unfolding spec.parametersRead
-entered c = done-still _ _ _ (same (c .before .before .before) (c .before .enum-told3 .given .1) ∙ c .entry-read .ensures _ _)
+entered c = done-noStores _ _ _ (same (c .before .before .before) (c .before .enum-told3 .given .1) ∙ c .entry-read .ensures)
 
 checked : tie.Need-returns-4
 unfolding spec.parametersRead
-checked c = done-still _ _ _ (same (c .before .before .before) (c .before .enum-told4 .given .1) ∙ c .check-read .ensures _ (c .before .before .before .before .before .before .before .before .before .args .mode))
-
-skipped : tie.Need-returns-5
-unfolding spec.parametersRead
-skipped c = done-still _ _ _ (same (c .before .before) (c .enum-told5 .given .1))
-
-unknown : tie.Need-returns-6
-unfolding spec.parametersRead
-unknown c = done-still _ _ _ (same (c .before .before) (c .enum-told6 .given .1))
+checked c = done-noStores _ _ _ (same (c .before .before .before) (c .before .enum-told4 .given .1) ∙ c .check-read .ensures)
 
 pub parameters-read-spec : {M : Type 1} → statement M
 parameters-read-spec =
     tie.close
     (tie.spec
-    (λ c κs. omega (arith, c .before .before .before .before .pre .1))
-    (λ c κs. search needs)
     (λ c. search needs)
     write-ready
     (λ c. search needs)
@@ -96,12 +87,8 @@ parameters-read-spec =
     entry-ready
     (λ c. search needs)
     check-ready
-    (λ c. search needs)
-    (λ c. search needs)
     written
     (λ c. search needs)
     filled
     entered
-    checked
-    skipped
-    unknown)
+    checked)

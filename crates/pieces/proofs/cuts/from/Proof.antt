@@ -14,5 +14,16 @@ abbrev μ-loop : tie.MeasureT-loop
 pub from-spec : {M : Type 1} → statement M
 from-spec =
     tie.close
-    (tie.spec Inv-loop μ-loop (λ c κs. search needs) (λ c κs. search needs) (λ c. search needs) (λ c κs. search needs) (λ c κs. search needs)
-    (λ c. search needs) (λ c. search needs) (λ c. search needs) (λ c. search needs) (λ c. search needs))
+    (tie.spec
+    Inv-loop
+    μ-loop
+    (λ c κs. search needs)
+    (λ c κs. search needs)
+    (λ c. search needs)
+    (λ c κs. search needs)
+    (λ c κs. search needs)
+    (λ c. search needs)
+    (λ c. search needs)
+    (λ c. search needs)
+    (λ c. search needs)
+    (λ c. search needs))
