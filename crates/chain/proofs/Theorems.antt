@@ -1,4 +1,4 @@
--- What the block chain is old to, each under the sentence that it carries (document 01).
+-- What the block chain is held to, each under the sentence that it carries.
 use mathlib.Core.Path.{_≡_, sym, ap, ap₂, subst, _∙_}
 use mathlib.Core.Bool.{not}
 use mathlib.Core.List.{List, [], _∷_, _++_, map}
@@ -137,7 +137,7 @@ open-unchanged = unchanged
 pub pack-unchanged : (p : Order) (output : List ℕ) → (packed p output .code ≡ 0 → ⊥) → packed p output .output ≡ output
 pack-unchanged = packed-unchanged
 
--- 5. The codes a call gives are those that document 01 lists for it: open 0, 1, 4 to 15 and 29
+-- 5. The codes that a call gives (O15, O17): open 0, 1, 4 to 15 and 29
 abbrev pub openCodes : List ℕ
 openCodes = 0 ∷ 1 ∷ 4 ∷ 5 ∷ 6 ∷ 7 ∷ 8 ∷ 9 ∷ 10 ∷ 11 ∷ 12 ∷ 13 ∷ 14 ∷ 15 ∷ 29 ∷ []
 

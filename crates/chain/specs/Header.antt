@@ -1,4 +1,5 @@
--- The signed header: its fields, and the rules that an image and its approved header are judged by.
+-- The signed header: its fields, and the rules that an image and its approved header are judged by. (H1, N4 and the like:
+-- docs/FORMAT.md.)
 use mathlib.Core.Bool.{Bool, not}
 use mathlib.Core.List.{List, [], _∷_, _++_}
 use Prim.Native.Nat.{ℕ, _+_, _-_, _*_}
@@ -26,7 +27,7 @@ pub record Header : Type 0 where
   pub scheme : ℕ
   pub root : List ℕ
 
--- the fields as they stand in the approved header, little-endian; reserved ones are ignored on reading
+-- H1 to H12, H18: the fields as they stand in the approved header, little-endian; reserved ones are ignored on reading
 abbrev pub headerOf : List ℕ → Header
 headerOf h =
     record {
@@ -49,41 +50,41 @@ unfoldable pub idBytes : List ℕ → List ℕ
 idBytes [] = []
 idBytes (id ∷ ids) = littleBytes 2 id ++ idBytes ids
 
--- the fields in their order; reserved ones are written as zero
+-- the fields in their order; reserved ones are written as zero (H10)
 unfoldable pub headerBytes : Header → List ℕ
 headerBytes d =
     littleBytes 4 (d .magic) ++ littleBytes 4 (d .stream .count) ++ littleBytes 4 (d .stream .blockSize)
     ++ littleBytes 4 (d .signature) ++ littleBytes 2 (d .headerSize) ++ littleBytes 2 (d .stream .hashsumLength)
     ++ idBytes (d .stream .ids) ++ littleBytes 2 (d .scheme) ++ littleBytes 2 0 ++ littleBytes 4 (d .stream .padding) ++ d .root
 
--- the magic at the start of each signed header
+-- H2: the magic at the start of each signed header
 abbrev pub headerMagic : ℕ
 headerMagic = 0xe6019598
 
--- header size = 36 + hashsum length
+-- H6: header size = 36 + hashsum length
 abbrev pub headerSizeFor : ℕ → ℕ
 headerSizeFor sum = 36 + sum
 
--- block data length = block size - hashsum length
+-- B2: block data length = block size - hashsum length
 abbrev pub dataLength : ℕ → ℕ → ℕ
 dataLength blockSize hashsumLength = blockSize - hashsumLength
 
--- file length = block count x block data length - padding length
+-- B9: file length = block count x block data length - padding length
 abbrev pub fileLength : Stream → ℕ
 fileLength s = s .count * dataLength (s .blockSize) (s .hashsumLength) - s .padding
 
--- the image is header, signature field, blocks: where the first block begins, and the image's length
+-- I1, I2: the image is header, signature field, blocks: where the first block begins, and the image's length
 abbrev pub firstBlock : Header → ℕ
 firstBlock d = d .headerSize + d .signature
 
 abbrev pub imageLength : Header → ℕ
 imageLength d = firstBlock d + d .stream .count * d .stream .blockSize
 
--- 11: block size at most the hashsum length or over 1,048,576
+-- N11, H4: block size at most the hashsum length or over 1,048,576
 abbrev pub blockSizeRules : ℕ → ℕ → List Rule
 blockSizeRules blockSize hashsumLength = rule 11 (leb blockSize hashsumLength) ∷ rule 11 (ltb 1048576 blockSize) ∷ []
 
--- 11: block count 0; the block size; padding at least the block data length
+-- N11: block count 0 (H3); the block size; padding at least the block data length (H11)
 abbrev pub countRules : Stream → List Rule
 countRules s =
     rule 11 (eqb (s .count) 0)
@@ -91,7 +92,7 @@ countRules s =
     ++ rule 11 (leb (dataLength (s .blockSize) (s .hashsumLength)) (s .padding))
     ∷ []
 
--- 5 to 11, of an approved header of so many bytes, where a signature of this length is expected
+-- N5 to N11, of an approved header of so many bytes, where a signature of this length is expected
 abbrev pub fieldRules : Header → ℕ → ℕ → List Rule
 fieldRules d approvedLength signature =
     rule 5 (not (eqb (d .magic) headerMagic))
@@ -103,7 +104,7 @@ fieldRules d approvedLength signature =
     ∷ rule 10 (not (eqb (d .signature) signature))
     ∷ countRules (d .stream)
 
--- 4 to 12, in this order: what an image gets by its approved header
+-- N4 to N12, in this order (O1): what an image gets by its approved header
 abbrev pub imageRules : List ℕ → List ℕ → ℕ → List Rule
 imageRules image approved signature =
     rule 4 (ltb (length approved) 36)
@@ -112,7 +113,7 @@ imageRules image approved signature =
     ++ rule 12 (not (eqb (length image) (imageLength (headerOf approved))))
     ∷ []
 
--- 1, then 4 to 12: what an image gets before any block is looked at, where neither map nor table is asked for
+-- N1, then N4 to N12: what an image gets before any block is looked at, where neither map nor table is asked for
 abbrev pub streamRules : List ℕ → List ℕ → ℕ → List Rule
 streamRules image approved signature =
     signatureRules signature ++ sizeRules (length image) ++ imageRules image approved signature

@@ -1,4 +1,4 @@
--- Pack: the image of a file, with a zeroed signature field.
+-- Pack: the image of a file, with a zeroed signature field (J5). (K1 and the like: docs/FORMAT.md.)
 use mathlib.Core.Bool.{not, cond}
 use mathlib.Core.List.{List, [], _∷_, _++_}
 use Prim.Native.Nat.{ℕ, zero, suc, _+_, _-_, _*_, _/_}
@@ -16,23 +16,23 @@ pub record Order : Type 0 where
   pub blockSize : ℕ
   pub signature : ℕ
 
--- block data length
+-- K1: block data length
 abbrev pub room : Order → ℕ
 room p = dataLength (p .blockSize) (sumLength (p .ids))
 
--- as few blocks as hold the file
+-- K2: as few blocks as hold the file
 abbrev pub blocks : Order → ℕ
 blocks p = (length (p .file) + room p - 1) / room p
 
--- what is left of their data
+-- K2: what is left of their data
 abbrev pub padding : Order → ℕ
 padding p = blocks p * room p - length (p .file)
 
--- the data of block k, from 0: the padding's zeros, then the file, cut into parts
+-- K3: the data of block k, from 0: the padding's zeros, then the file, cut into parts
 abbrev pub chunk : Order → ℕ → List ℕ
 chunk p k = part (replicate (padding p) 0 ++ p .file) (k * room p) (room p)
 
--- the hash field before block k, if j blocks begin there: the hashsum of block k; the last block's is zero
+-- K4: the hash field before block k, if j blocks begin there: the hashsum of block k; the last block's is zero
 unfoldable pub link : Order → ℕ → ℕ → List ℕ
 link p zero k = replicate (sumLength (p .ids)) 0
 link p (suc j) k = hashsum (p .ids) (link p j (suc k) ++ chunk p k)
@@ -42,7 +42,7 @@ unfoldable pub blocksFrom : Order → ℕ → ℕ → List ℕ
 blocksFrom p zero k = []
 blocksFrom p (suc j) k = link p j (suc k) ++ chunk p k ++ blocksFrom p j (suc k)
 
--- the fields of the image's header; the root hash is the first block's hashsum
+-- K5: the fields of the image's header; the root hash is the first block's hashsum
 abbrev pub packedHeader : Order → Header
 packedHeader p =
     record {
@@ -60,7 +60,7 @@ packedHeader p =
       root = link p (blocks p) 0;
     }
 
--- pack checks 6, then block size (11), 28, then 1 (signature length, image over 2^30), then 29
+-- O13: 6, then block size (11), 28, then 1 (signature length, image over 2^30), then 29
 abbrev pub packRules : Order → ℕ → List Rule
 packRules p output =
     idRules (p .ids)
@@ -71,7 +71,7 @@ packRules p output =
     ++ rule 29 (not (eqb output (imageLength (packedHeader p))))
     ∷ []
 
--- header, a signature field of zeros, blocks
+-- K6: header, a signature field of zeros, blocks
 unfoldable pub image : Order → List ℕ
 image p = headerBytes (packedHeader p) ++ replicate (p .signature) 0 ++ blocksFrom p (blocks p) 0
 
@@ -80,7 +80,7 @@ pub record Packed : Type 0 where
   pub code : ℕ
   pub output : List ℕ
 
--- the image where no rule is broken; on a refusal the output is as it was
+-- the image where no rule is broken; on a refusal the output is as it was (P12)
 unfoldable pub packed : Order → List ℕ → Packed
 packed p output =
     let code = firstBroken (packRules p (length output)) in

@@ -1,4 +1,4 @@
--- Running bare: a command file without SBS, with map, table, mode and memory.
+-- Running bare: a command file that is in no image, with map, table, mode and memory (J4).
 use mathlib.Core.List.{List, _++_}
 use Prim.Native.Nat.{ℕ}
 use lib.ListN.{length}
@@ -18,7 +18,7 @@ pub record Bare : Type 0 where
   pub table : List ℕ
   pub mode : ℕ
 
--- 1, 2, 3 in this order, before the file is looked at, where so many bytes of memory are lent
+-- O1: 1, 2, 3 in this order, before the file is looked at, where so many bytes of memory are lent
 abbrev pub bareRules : Bare → ℕ → List Rule
 bareRules b memory =
     modeRules (b .mode) ++ sizeRules (length (b .file)) ++ mapRules (b .map) memory ++ tableRules (b .table)
@@ -26,7 +26,7 @@ bareRules b memory =
 abbrev pub bareSetting : Bare → Setting
 bareSetting b = settingOf (record { length = length (b .file); mode = b .mode }) (b .map) (b .table)
 
--- in a bare run every byte counts as proved
+-- T1: in a bare run every byte counts as proved
 abbrev pub bareEnd : Bare → State
 bareEnd b = run (bareSetting b) (begun (length (b .file))) (b .file)
 

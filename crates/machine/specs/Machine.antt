@@ -1,4 +1,4 @@
--- The written machine: what each proved byte of a command file does.
+-- The written machine: what each proved byte of a command file does. (T1, F14 and the like: docs/FORMAT.md.)
 -- It is told the unit and the file's length, and it never sees memory: it answers with the stores to make.
 use mathlib.Core.Bool.{Bool, true, false, cond}
 use mathlib.Core.List.{List, [], _∷_, _++_}
@@ -94,12 +94,12 @@ used s = record { phase = s .phase; gathered = s .gathered; start = s .start; ne
 abbrev pub tallied : Tally → State → State
 tallied t s = record { phase = s .phase; gathered = s .gathered; start = s .start; next = s .next; tally = t }
 
--- bytes stored counts every store, repeats included
+-- T13: bytes stored counts every store, repeats included
 abbrev pub withStored : ℕ → Tally → Tally
 withStored n t =
     record { commands = t .commands; stored = t .stored + n; entry = t .entry; entered = t .entered }
 
--- the last entry counts
+-- F14: the last entry counts
 abbrev pub withEntry : ℕ → Tally → Tally
 withEntry a t = record { commands = t .commands; stored = t .stored; entry = a; entered = true }
 
@@ -111,28 +111,28 @@ withCommand t =
 abbrev pub awaiting : State → State
 awaiting s = record { phase = Header; gathered = []; start = s .next; next = s .next; tally = s .tally }
 
--- Where a command would begin in a file of this length, judged from sizes alone: at the file's end 0, or 27 without an
+-- T9, O12: where a command would begin in a file of this length, judged from sizes alone: at the file's end 0, or 27 without an
 -- entry command; 17 with 1 to 15 bytes left; else a command begins.
 unfoldable pub commandBegins : ℕ → State → State
 commandBegins fileLength s =
     cond (eqb (s .next) fileLength) (cond (s .tally .entered) (stopped 0 0 s) (stopped 27 fileLength s))
     (cond (ltb (fileLength - s .next) 16) (stopped 17 (s .next) s) (awaiting s))
 
--- a command counts as done when its last byte has been used
+-- T11: a command counts as done when its last byte has been used
 unfoldable pub finished : ℕ → State → State
 finished fileLength s = commandBegins fileLength (tallied (withCommand (s .tally)) s)
 
--- a command that breaks a rule stops the run at its first byte; one that breaks none has its effect
+-- P2, T12: a command that breaks a rule stops the run at its first byte; one that breaks none has its effect
 abbrev pub judged : ℕ → State → Effect → Effect
 judged code s e = cond (eqb code 0) e (noStores (stopped code (s .start) s))
 
--- the magic is judged when its 8 bytes are proved
+-- T3, F1: the magic is judged when its 8 bytes are proved
 unfoldable pub magicRead : ℕ → State → Effect
 magicRead fileLength s =
     noStores (cond (eqb (little (s .gathered)) 0x8adc5fa2448cb65e) (commandBegins fileLength s) (stopped 16 0 s))
 
--- What a header says of data of n bytes: a command is judged by its length, and waits for what else it is judged by;
--- a skipped one has its data skipped; an unknown one is refused.
+-- T4, T10: what a header says of data of n bytes: a command is judged by its length, and waits for what else it is judged by;
+-- a skipped one has its data skipped (F17); an unknown one is refused (N18).
 unfoldable pub headerSays : Named → ℕ → ℕ → State → Effect
 headerSays (Known k) fileLength n s =
     judged (firstBroken (lengthRules k n (fileLength - s .next))) s (noStores (inPhase (Parameters k) s))
@@ -144,14 +144,14 @@ headerSays Unknown fileLength n s = judged 18 s (noStores s)
 unfoldable pub headerRead : ℕ → State → Effect
 headerRead fileLength s = headerSays (named (commandId (s .gathered))) fileLength (dataLength (s .gathered)) s
 
--- a write's address is judged over its whole range; then each byte is stored as it comes
+-- T5, T6, F11: a write's address is judged over its whole range; then each byte is stored as it comes
 unfoldable pub writeRead : Job → List Region → State → Effect
 writeRead job map s =
     let n = dataLength (s .gathered) - 8 in
     judged (firstBroken (rangeRules map (limit (job .mode)) (address (s .gathered)) n)) s
     (noStores (cond (eqb n 0) (finished (job .length) s) (inPhase (Storing (address (s .gathered)) n) s)))
 
--- a fill stores ascending
+-- T7, F12: a fill stores ascending
 unfoldable pub fillRead : Job → List Region → State → Effect
 fillRead job map s =
     let n = fillCount (s .gathered) in
@@ -180,11 +180,11 @@ parametersRead Check e s = checkRead (e .job .length) (e .table) s
 abbrev pub gather : ℕ → (State → Effect) → State → ℕ → Effect
 gather all says s b = let t = kept b s in cond (ltb (length (t .gathered)) all) (noStores t) (says t)
 
--- the last byte of a command's data finishes it
+-- T11: the last byte of a command's data finishes it
 abbrev pub unlessLast : ℕ → ℕ → Phase → State → State
 unlessLast fileLength left p s = cond (eqb left 1) (finished fileLength s) (inPhase p s)
 
--- what one proved byte does
+-- what one proved byte does; one behind a stop does nothing (T14)
 unfoldable pub react : Phase → Setting → State → ℕ → Effect
 react Magic e s b = gather 8 (magicRead (e .job .length)) s b
 react Header e s b = gather 16 (headerRead (e .job .length)) s b
@@ -210,7 +210,7 @@ unfoldable pub trace : Setting → State → List ℕ → List Store
 trace e s [] = []
 trace e s (b ∷ bs) = step e s b .stores ++ trace e (step e s b .state) bs
 
--- before the first byte; 16 for a short file is judged from its size
+-- T8: before the first byte; 16 for a short file is judged from its size
 abbrev pub begun : ℕ → State
 begun fileLength =
     record {
@@ -235,6 +235,6 @@ abbrev pub stopOr : Stop → Halt → Stop
 stopOr otherwise (At stop) = stop
 stopOr otherwise Not = otherwise
 
--- the answer of a stop, with the counts as they stand; entry is 0 on refusal
+-- P6, P7, P9: the answer of a stop, with the counts as they stand; entry is 0 on refusal
 abbrev pub answerOf : Stop → Tally → Answer
 answerOf stop t = told stop (t .commands) (t .stored) (cond (eqb (stop .code) 0) (t .entry) 0)

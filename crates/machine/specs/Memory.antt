@@ -1,4 +1,4 @@
--- Memory: the stores applied in order to the lent bytes.
+-- P14: memory, the stores applied in order to the lent bytes.
 use mathlib.Core.List.{List, [], _∷_}
 use Prim.Native.Nat.{ℕ}
 use lib.ListN.{set}
