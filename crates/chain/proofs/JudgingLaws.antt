@@ -49,6 +49,6 @@ numbered image approved signature z e =
     let q = passed image approved signature z in
     record {
       passes = passes-own image approved signature z;
-      begins = ap₂ (λ (x y : ℕ). x + y) (sym (q .sound .approved)) (sym (q .sound .signature));
+      offset = ap₂ (λ (x y : ℕ). x + y) (sym (q .sound .approved)) (sym (q .sound .signature));
       stream = e;
     }

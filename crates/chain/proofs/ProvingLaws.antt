@@ -1,18 +1,17 @@
 -- Laws of an image that passed, by the numbers that the code has read of it: its blocks, how many are proved, and the file copied out.
-use mathlib.Core.Path.{_≡_, refl, sym, ap, ap₂, subst, _∙_}
-use mathlib.Core.Bool.{Bool, cond}
-use mathlib.Core.List.{List, [], _∷_, _++_}
+use mathlib.Core.Path.{_≡_, sym, ap, ap₂, subst, _∙_}
+use mathlib.Core.List.{List, []}
 use mathlib.Core.Logic.{_≢_}
-use Prim.Native.Nat.{ℕ, zero, suc, _+_, _-_, _*_, _≤_, _<_}
+use Prim.Native.Nat.{ℕ, suc, _+_, _-_, _*_, _≤_, _<_}
 use native.Mathlib.Nat.{le-of-lt, mul-le-mul-right, suc-mul}
 use native.Mathlib.Numerals.{add-one}
 use native.Mathlib.Omega.{arith}
 use lib.Dec.{eqb}
-use lib.ListN.{length, take, drop, length-append}
-use Rattle.octets.specs.Parts.{part, put}
+use lib.ListN.{length, take, length-append}
+use Rattle.octets.specs.Parts.{put}
 use Rattle.octets.proofs.PartLaws.{length-part, length-put}
 use Rattle.answers.specs.Answers.{told, refused, stopAt, recordLength}
-use Rattle.answers.specs.Rules.{Rule, firstBroken}
+use Rattle.answers.specs.Rules.{firstBroken}
 use Rattle.answers.specs.declared.Answer.{Answer}
 use Rattle.answers.specs.declared.Stop.{Stop}
 use Rattle.answers.proofs.ChoiceLaws.{cond-cases, cond-eq, cond-ne}
@@ -20,15 +19,14 @@ use Rattle.answers.proofs.OutcomeLaws.{given, unwritten, answered-given, answer
 use Rattle.chain.specs.Blocks.{blockOf, blockRules, blockCode, expected, paddingOf, fileBytes, fileUpTo}
 use Rattle.chain.specs.Blocks.{proved, provedBlocks, blocksStop, badBlock}
 use Rattle.chain.specs.Code.{streamOf}
-use Rattle.chain.specs.Contracts.{Passes, HasBlock, JudgedBy, Sized, blockAt, Numbered, provedOf, Copyable, Answered}
-use Rattle.chain.specs.Header.{Header, Stream, headerOf, fileLength, firstBlock, imageRules}
+use Rattle.chain.specs.Contracts.{HasBlock, Sized, blockAt, Numbered, provedOf, Copyable, Answered}
+use Rattle.chain.specs.Header.{Header, Stream, headerOf, fileLength}
 use Rattle.chain.specs.Open.{openRules, openAnswer, provedFile, opened}
 use Rattle.chain.specs.declared.blocks.ProvedBlocks.{ProvedBlocks}
-use Rattle.chain.specs.declared.header.Judgement.{Judgement}
 use Rattle.chain.specs.declared.header.Stream.{Stream as Numbers}
-use Rattle.chain.proofs.BlockLaws.{all-pass, goes-on, stops, proved-le, file-none, file-more, put-more, first-part-fits}
-use Rattle.chain.proofs.HeaderLaws.{Passed, passed, blockData}
-use Rattle.chain.proofs.PassLaws.{passes-own, block-within, data-within, expected-before}
+use Rattle.chain.proofs.BlockLaws.{goes-on, stops, proved-le, file-none, file-more, put-more, first-part-fits}
+use Rattle.chain.proofs.HeaderLaws.{Passed, passed}
+use Rattle.chain.proofs.PassLaws.{expected-before}
 
 -- ---- blocks at an offset
 
@@ -65,11 +63,23 @@ module _ {image approved : List ℕ} {first : ℕ} {s : Numbers} (n : Numbered i
 
   pub image-fits : first + s .count * s .«block_size» ≤ length image
   image-fits =
-      subst (λ (t : Stream). first + t .count * t .blockSize ≤ length image) (sym (n .stream)) (omega (arith, n .begins, passing .exact))
+      subst (λ (t : Stream). first + t .count * t .blockSize ≤ length image) (sym (n .stream)) (omega (arith, n .offset, passing .exact))
+
+  pub count-is : s .count ≡ d .stream .count
+  count-is = ap (λ (t : Stream). t .count) (n .stream)
+
+  pub has-block : (k : ℕ) → k < s .count → HasBlock image approved k
+  has-block k h = (n .passes, subst (λ (i : ℕ). k < i) count-is h)
 
   -- the blocks at the offset are the image's
   pub blocks-are : blockAt image first (s .«block_size») ≡ blockOf image d
-  blocks-are = ap₂ (λ (i : ℕ) (t : Stream). blockAt image i (t .blockSize)) (n .begins) (n .stream)
+  blocks-are = ap₂ (λ (i : ℕ) (t : Stream). blockAt image i (t .blockSize)) (n .offset) (n .stream)
+
+  -- so are the file's bytes in one of them
+  pub bytes-are : (k : ℕ) (b : List ℕ) → b ≡ blockAt image first (s .«block_size») k
+      → fileBytes (streamOf s) k b ≡ fileBytes (d .stream) k (blockOf image d k)
+  bytes-are k b g =
+      ap₂ (λ (t : Stream) (c : List ℕ). fileBytes t k c) (n .stream) (g ∙ ap (λ (block : ℕ → List ℕ). block k) blocks-are)
 
   -- judged by these numbers, a block gets its code
   pub code-is : (k r : ℕ) (x b : List ℕ) → r ≡ firstBroken (blockRules (streamOf s) k x b) → x ≡ expected d (blockOf image d) k
@@ -195,7 +205,7 @@ module _ (image approved : List ℕ) (signature : ℕ) (before : List ℕ) where
                 arith,
                 ap (λ (x : ProvedBlocks). x .count) e,
                 proved-le (headerOf approved) blocks (headerOf approved .stream .count),
-                ap (λ (t : Stream). t .count) (n .stream),
+                count-is n,
               );
           exact = f;
         }

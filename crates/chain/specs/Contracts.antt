@@ -54,7 +54,7 @@ blockAt image first blockSize k = part image (first + k * blockSize) blockSize
 -- an image that passes, with what its header says: where the first block begins, and the numbers of the blocks
 pub record Numbered (image approved : List ℕ) (first : ℕ) (s : Numbers) : Type 0 where
   pub passes : Passes image approved
-  pub begins : first ≡ firstBlock (headerOf approved)
+  pub offset : first ≡ firstBlock (headerOf approved)
   pub stream : streamOf s ≡ headerOf approved .stream
 
 -- how many blocks are proved, and why not the next

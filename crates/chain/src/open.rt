@@ -3,7 +3,6 @@ ghost use denote.Ref.{now, ptr};
 ghost use Prim.Native.Nat.{_+_};
 ghost use lib.ListN.{length};
 ghost use Rattle.octets.specs.Parts.{put};
-ghost use Rattle.answers.specs.Answers.{Outcome};
 ghost use Rattle.answers.specs.Rules.{firstBroken};
 ghost use Rattle.chain.specs.Blocks.{blockOf, fileUpTo};
 ghost use Rattle.chain.specs.Code.{streamOf};

@@ -63,9 +63,9 @@ fn order_code(file: &[u8], ids: [u64; 4], block_size: u64, signature: u64) -> u6
     if id != codes::DONE {
         return id;
     }
-    let size = header::block_size_code(block_size, hashsum::sum_length(ids));
-    if size != codes::DONE {
-        return size;
+    let blocks = header::block_size_code(block_size, hashsum::sum_length(ids));
+    if blocks != codes::DONE {
+        return blocks;
     }
     if file.len() == 0 {
         return codes::EMPTY_FILE;

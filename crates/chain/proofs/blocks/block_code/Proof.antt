@@ -1,11 +1,10 @@
 -- Each test says whether its rule holds.
 use mathlib.Core.Path.{_≡_, ap, _∙_}
-use mathlib.Core.Bool.{Bool, not}
+use mathlib.Core.Bool.{not}
 use mathlib.Core.List.{[], _∷_}
-use Prim.Native.Nat.{ℕ, _+_, _-_, _≤_}
+use Prim.Native.Nat.{ℕ, _+_, _-_}
 use native.Mathlib.Omega.{arith}
 use borrow.Author.Needs.{needs}
-use lib.ListN.{length}
 use Rattle.octets.specs.Parts.{part, allZero}
 use Rattle.answers.specs.Rules.{rule, firstBroken}
 use Rattle.chain.specs.Blocks.{paddingOf}

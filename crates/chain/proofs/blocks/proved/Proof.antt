@@ -1,14 +1,14 @@
 -- The loop's invariant: the first k blocks are proved.
-use mathlib.Core.Path.{_≡_, sym, ap, _∙_}
+use mathlib.Core.Path.{_≡_}
 use mathlib.Core.List.{List}
-use Prim.Native.Nat.{ℕ, _+_, _-_, _≤_, _<_}
+use Prim.Native.Nat.{ℕ, _-_, _≤_, _<_}
 use native.Mathlib.Omega.{arith}
 use borrow.Author.Needs.{needs}
 use Rattle.chain.specs.Blocks.{blockOf}
 use Rattle.chain.specs.Blocks as spec
-use Rattle.chain.specs.Header.{Header, Stream, headerOf}
+use Rattle.chain.specs.Header.{Header, headerOf}
 use Rattle.chain.proofs.BlockLaws.{all-pass}
-use Rattle.chain.proofs.ProvingLaws.{all-proved, next-bad, next-proved}
+use Rattle.chain.proofs.ProvingLaws.{count-is, all-proved, next-bad, next-proved}
 use Rattle.chain.proofs.blocks.proved.Statement.{statement}
 use Rattle.chain.proofs.blocks.proved.Tie as tie
 
@@ -29,14 +29,11 @@ module _ (l : tie.At-loop Inv-loop μ-loop) where
   abbrev block : ℕ → List ℕ
   block = blockOf (start .args .image .now) d
 
-  counts : start .args .s .count ≡ d .stream .count
-  counts = ap (λ (t : Stream). t .count) (start .pre .stream)
-
 among : (c : tie.In-loop Inv-loop μ-loop) → c .before .loop .k < start (c .before) .args .s .count
 among c = omega (arith, c .before .loop .inv .0, c .loop-test .taken)
 
 next : (c : tie.In-loop Inv-loop μ-loop) → c .before .loop .k < d (c .before) .stream .count
-next c = omega (arith, among c, counts (c .before))
+next c = omega (arith, among c, count-is (start (c .before) .pre))
 
 loop-holds : tie.Need-loop-holds Inv-loop μ-loop
 loop-holds c =
@@ -64,7 +61,7 @@ returns-2 : tie.Need-returns-2 Inv-loop μ-loop
 returns-2 c =
     let e = c .before in
     let l = e .before in
-    all-proved (d l) (block l) (l .loop .k) (l .loop .inv .2) (omega (arith, l .loop .inv, e .loop-test .left, counts l))
+    all-proved (d l) (block l) (l .loop .k) (l .loop .inv .2) (omega (arith, l .loop .inv, e .loop-test .left, count-is (start l .pre)))
     (c .stop-at2 .ensures)
 
 pub proved-spec : {M : Type 1} → statement M

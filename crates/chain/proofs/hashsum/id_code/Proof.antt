@@ -1,5 +1,5 @@
 -- Each return has the tests that led there.
-use mathlib.Core.Path.{sym, _∙_}
+use mathlib.Core.Path.{sym}
 use borrow.Author.Needs.{needs}
 use borrow.Author.Tests.{eq-eqb, ne-eqb}
 use Rattle.chain.proofs.hashsum.id_code.Statement.{statement}

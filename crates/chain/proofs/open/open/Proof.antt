@@ -1,6 +1,4 @@
-use mathlib.Core.Path.{_≡_, sym, _∙_}
-use mathlib.Core.List.{List}
-use Prim.Native.Nat.{ℕ}
+use mathlib.Core.Path.{sym, _∙_}
 use borrow.Author.Needs.{needs}
 use Rattle.chain.proofs.ProvingLaws.{opened-unwritten, opened-given}
 use Rattle.chain.proofs.open.open.Statement.{statement}

@@ -1,4 +1,4 @@
-use mathlib.Core.Path.{_≡_, refl, sym, ap, _∙_}
+use mathlib.Core.Path.{_≡_, sym, ap, _∙_}
 use mathlib.Core.List.{List}
 use Prim.Native.Nat.{ℕ, _+_, _-_, _≤_}
 use native.Mathlib.Omega.{arith}
@@ -8,7 +8,7 @@ use Rattle.octets.specs.Parts.{part}
 use Rattle.answers.specs.Rules.{firstBroken}
 use Rattle.chain.specs.Header.{streamRules}
 use Rattle.chain.specs.Open.{fieldStart}
-use Rattle.chain.proofs.HeaderLaws.{Passed, stream-passed}
+use Rattle.chain.proofs.HeaderLaws.{stream-passed}
 use Rattle.chain.proofs.PassLaws.{starts-nowhere, starts-behind}
 use Rattle.chain.proofs.SignatureLaws.{empty-field, whole-field}
 use Rattle.chain.proofs.open.signature_field.Statement.{statement}

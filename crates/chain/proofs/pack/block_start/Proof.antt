@@ -1,5 +1,5 @@
 -- A product of a 32-bit number and a block size does not wrap.
-use Prim.Native.Nat.{ℕ, _*_, _^_, _≤_}
+use Prim.Native.Nat.{_*_, _^_, _≤_}
 use native.Mathlib.Omega.{arith}
 use borrow.Author.Needs.{needs}
 use Rattle.chain.proofs.CodeLaws.{blocks-short}

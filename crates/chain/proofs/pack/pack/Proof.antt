@@ -7,7 +7,7 @@ use lib.ListN.{length}
 use Rattle.answers.specs.Rules.{firstBroken}
 use Rattle.chain.specs.Contracts.{Orderly, lengthRules}
 use Rattle.chain.specs.Header.{Header}
-use Rattle.chain.specs.Pack.{Order, packRules, packedHeader, image}
+use Rattle.chain.specs.Pack.{Order, packRules, image}
 use Rattle.chain.proofs.PackingLaws.{orderly, order-refuses, order-passes, plans, order-is, pack-refused, pack-done}
 use Rattle.chain.proofs.pack.pack.Statement.{statement}
 use Rattle.chain.proofs.pack.pack.Tie as tie
