@@ -44,10 +44,10 @@ answered old a before after =
     cond (eqb (length old) recordLength) (record { code = a .code; answer = recordBytes a; lent = after })
     (record { code = 1; answer = old; lent = before })
 
--- How a call concludes that judges its arguments first: where these break a rule its number, `early`, is the answer,
+-- How a call concludes that judges its arguments first. Where these break a rule, its number, `early`, is the answer;
 abbrev pub answerAfter : ℕ → Answer → Answer
 answerAfter early a = cond (eqb early 0) a (refused early)
 
--- and nothing is written (P11).
+-- then nothing is written (P11).
 abbrev pub writtenAfter : {A : Type 0} → ℕ → List A → List A
 writtenAfter early xs = cond (eqb early 0) xs []

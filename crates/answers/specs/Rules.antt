@@ -1,5 +1,5 @@
 -- The table of numbered answers, read as rules in an order: the first that is broken gives its number (N0 to N29, O1).
-use mathlib.Core.Bool.{Bool, true, false, cond}
+use mathlib.Core.Bool.{Bool, cond}
 use mathlib.Core.List.{List, [], _∷_}
 use Prim.Native.Nat.{ℕ, _^_}
 use lib.Dec.{eqb, ltb}

@@ -31,7 +31,7 @@ ordered low (r ∷ rs) =
     cond (ltb (r .length) 1) false
     (cond (ltb (r .base) low) false (cond (ltb (2 ^ 52) (end r)) false (ordered (end r) rs)))
 
--- M7: lent memory is the regions' bytes one behind the other
+-- M6, M8: the sum of the lengths
 unfoldable pub total : List Region → ℕ
 total [] = 0
 total (r ∷ rs) = r .length + total rs

@@ -1,6 +1,6 @@
 -- The chain of blocks: what a block is judged by, how many are proved, and the file that they hold. (B1, N13 and the like:
 -- docs/FORMAT.md.)
-use mathlib.Core.Bool.{Bool, true, false, not, cond}
+use mathlib.Core.Bool.{false, not, cond}
 use mathlib.Core.List.{List, [], _∷_, _++_}
 use Prim.Native.Nat.{ℕ, zero, suc, _+_, _*_}
 use lib.Dec.{eqb}
@@ -59,7 +59,7 @@ provedBlocks d block = proved d block (d .stream .count)
 abbrev pub badBlock : Header → (ℕ → List ℕ) → ℕ → Stop
 badBlock d block m = stopAt (blockCode d block m) (suc m)
 
--- why not the next, where m are proved: all are, or that is bad
+-- what the blocks come to, where the first m of them are proved: 0 where these are all, else the next one's code at its place
 abbrev pub blocksStop : Header → (ℕ → List ℕ) → ℕ → Stop
 blocksStop d block m = cond (eqb m (d .stream .count)) (stopAt 0 0) (badBlock d block m)
 

@@ -1,6 +1,6 @@
 -- The signed header: its fields, and the rules that an image and its approved header are judged by. (H1, N4 and the like:
 -- docs/FORMAT.md.)
-use mathlib.Core.Bool.{Bool, not}
+use mathlib.Core.Bool.{not}
 use mathlib.Core.List.{List, [], _∷_, _++_}
 use Prim.Native.Nat.{ℕ, _+_, _-_, _*_}
 use lib.Dec.{eqb, leb, ltb}

@@ -2,12 +2,12 @@
 use mathlib.Core.Bool.{not, cond}
 use mathlib.Core.List.{List, [], _∷_, _++_}
 use Prim.Native.Nat.{ℕ, zero, suc, _+_, _-_, _*_, _/_}
-use lib.Dec.{eqb, leb, ltb}
+use lib.Dec.{eqb}
 use lib.ListN.{length, replicate}
 use Rattle.octets.specs.Parts.{part}
 use Rattle.answers.specs.Rules.{Rule, rule, firstBroken, signatureRules, sizeRules}
 use Rattle.chain.specs.Hashsum.{hashsum, sumLength, idRules}
-use Rattle.chain.specs.Header.{Header, Stream, headerMagic, headerSizeFor, headerBytes, dataLength, imageLength, blockSizeRules}
+use Rattle.chain.specs.Header.{Header, headerMagic, headerSizeFor, headerBytes, dataLength, imageLength, blockSizeRules}
 
 -- what is packed, and how: the file, the four hash IDs, block size and signature length
 pub record Order : Type 0 where

@@ -30,8 +30,7 @@ bareSetting b = settingOf (record { length = length (b .file); mode = b .mode })
 abbrev pub bareEnd : Bare → State
 bareEnd b = run (bareSetting b) (begun (length (b .file))) (b .file)
 
--- what the call answers, and the stores that it makes. The whole file always stops the machine; a run that it did not
--- stop would have no entry, 27.
+-- what the call answers, and the stores that it makes; the whole file always stops the machine, so this 27 is never given
 abbrev pub bareAnswer : Bare → ℕ → Answer
 bareAnswer b memory =
     answerAfter (firstBroken (bareRules b memory))

@@ -1,8 +1,8 @@
 -- The written machine: what each proved byte of a command file does. (T1, F14 and the like: docs/FORMAT.md.)
 -- It is told the unit and the file's length, and it never sees memory: it answers with the stores to make.
-use mathlib.Core.Bool.{Bool, true, false, cond}
+use mathlib.Core.Bool.{true, false, cond}
 use mathlib.Core.List.{List, [], _∷_, _++_}
-use Prim.Native.Nat.{ℕ, zero, suc, pred, _+_, _-_}
+use Prim.Native.Nat.{ℕ, suc, pred, _+_, _-_}
 use lib.Dec.{eqb, ltb}
 use lib.ListN.{length, replicate}
 use Rattle.octets.specs.Numbers.{little}
@@ -122,7 +122,7 @@ commandBegins fileLength s =
 unfoldable pub finished : ℕ → State → State
 finished fileLength s = commandBegins fileLength (tallied (withCommand (s .tally)) s)
 
--- P2, T12: a command that breaks a rule stops the run at its first byte; one that breaks none has its effect
+-- P2, T12: a command that breaks a rule stops the run, with its first byte as the place; one that breaks none has its effect
 abbrev pub judged : ℕ → State → Effect → Effect
 judged code s e = cond (eqb code 0) e (noStores (stopped code (s .start) s))
 
@@ -139,7 +139,7 @@ headerSays (Known k) fileLength n s =
 headerSays Skipped fileLength n s =
     judged (firstBroken (dataRules n (fileLength - s .next))) s
     (noStores (cond (eqb n 0) (finished fileLength s) (inPhase (Skipping n) s)))
-headerSays Unknown fileLength n s = judged 18 s (noStores s)
+headerSays Unknown fileLength n s = noStores (stopped 18 (s .start) s)
 
 unfoldable pub headerRead : ℕ → State → Effect
 headerRead fileLength s = headerSays (named (commandId (s .gathered))) fileLength (dataLength (s .gathered)) s

@@ -33,7 +33,7 @@ pub fn run_bare(
     let length = file.len() as u64;
     let job = Job { length, mode };
     let end = crate::take_piece(crate::begin(length), file, job, map, table, memory);
-    // the whole file always stops the machine; a run that it did not stop would have no entry
+    // the whole file always stops the machine, so this stop is never given
     let stop = crate::stop_or(
         answers::stop_at(codes::NO_ENTRY, length),
         crate::halted(end),
