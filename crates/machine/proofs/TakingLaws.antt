@@ -25,6 +25,7 @@ use Rattle.machine.specs.Contracts.{
   Done,
   Used,
   Gathers,
+  Took,
   Ready,
   Lent,
   Roomy,
@@ -201,6 +202,13 @@ module _ {all : ℕ} {c : Control} {g rest : List ℕ} {fileLength : ℕ} {r : C
         ap (λ (b : Bool). cond b (noStores t) (says t))
         (lt-ltb (length (t .gathered)) all (omega (arith, together, leb-false all (c .kept + n) (sym (k .told) ∙ w))))
         ∙ ap noStores (sym (k .state))
+
+    -- so what was taken is what the contract says
+    pub took-read : {t : State} → whole ≡ true → says (stateOf r h) ≡ noStores t → Took all says c g rest n t
+    took-read w e = record { many = k .many; effect = all-said w ∙ e }
+
+    pub took-kept : whole ≡ false → Took all says c g rest n (stateOf r h)
+    took-kept w = record { many = k .many; effect = none-said w }
 
   -- the header is still the command's
   pub still-right : {j : Command} → Passed j (stateOf c g) → wrongLength j (dataLength (stateOf r h .gathered)) ≡ false
