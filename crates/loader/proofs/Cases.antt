@@ -10,9 +10,10 @@ use lib.Dec.{T, eqb, eqb→eq}
 use lib.ListN.{length, getD, take, drop, replicate, length-replicate}
 use Rattle.octets.specs.Numbers.{little, littleBytes}
 use Rattle.octets.specs.Parts.{same, allZero}
-use Rattle.answers.specs.Answers.{Outcome, refused}
+use Rattle.answers.specs.Answers.{Outcome, answerAfter, recordLength, stopAt}
 use Rattle.answers.specs.Rules.{firstBroken}
 use Rattle.answers.specs.declared.Answer.{Answer}
+use Rattle.answers.proofs.ChoiceLaws.{cond-parts}
 use Rattle.board.specs.Cpuid.{ascending}
 use Rattle.board.specs.Map.{ordered, total}
 use Rattle.board.specs.Records.{records}
@@ -20,18 +21,19 @@ use Rattle.hashes.specs.Compression as compression
 use Rattle.hashes.specs.Digests as digests
 use Rattle.hashes.specs.Padding as messages
 use Rattle.hashes.specs.Tables as tables
-use Rattle.chain.specs.Blocks.{blockCode, fileUpTo}
+use Rattle.chain.specs.Blocks.{blockCode, badBlock, fileUpTo}
 use Rattle.chain.specs.Hashsum.{hashsum, sumLength, anyUnknown}
-use Rattle.chain.specs.Header.{Header, headerSizeFor, headerBytes, idBytes, fileLength}
-use Rattle.chain.specs.Pack.{Order, imageLength, packRules, packed}
+use Rattle.chain.specs.Header.{Header, headerMagic, headerSizeFor, headerBytes, idBytes, fileLength, imageLength}
+use Rattle.chain.specs.Pack.{Order, packRules, packedHeader, packed}
 use Rattle.chain.proofs.BlockLaws.{proved-le}
 use Rattle.chain.proofs.CodeCases.{OpenCase, openCode, openCases, open-cases}
 use Rattle.chain.proofs.GivenCodes.{among}
-use Rattle.machine.specs.Machine.{run, answerOr}
+use Rattle.machine.specs.Machine.{run, halted, stopOr, answerOf}
 use Rattle.machine.specs.declared.Phase.the-variants.{Magic, Stopped}
 use Rattle.machine.proofs.Cases as bare
 use Rattle.loader.proofs.Calls.{load-of-pack, headerCodes, ArgumentsTaken, header-agrees}
 use Rattle.loader.proofs.Fold.{bad-answers}
+use Rattle.loader.proofs.Images.{offer}
 use Rattle.loader.proofs.LoadLaws.{load-answered}
 use Rattle.loader.specs.Load.{Offer, loadRules, header, block, stateAfter, loadAnswer, loaded}
 
@@ -39,32 +41,23 @@ pub record Case : Type 0 where
   pub offer : Offer
   pub memory : ℕ
 
--- what load returns, where so many bytes of memory and a record of 40 are lent
+-- what load returns, where so many bytes of memory and a record of its length are lent
 abbrev pub returned : Case → ℕ
-returned c = loaded (c .offer) (replicate (c .memory) 0) (replicate 40 0) .code
+returned c = loaded (c .offer) (replicate (c .memory) 0) (replicate recordLength 0) .code
 
 -- ---- 0 to 3 and 16 to 27: what a bare run gives, load gives for the packed file
 
 abbrev orderOf : bare.Case → Order
-orderOf c = record { file = c .file; ids = 2 ∷ 0 ∷ 0 ∷ 0 ∷ []; blockSize = 64; signature = 1 }
+orderOf c = record { file = c .given .file; ids = 2 ∷ 0 ∷ 0 ∷ 0 ∷ []; blockSize = 64; signature = 1 }
 
 abbrev blank : bare.Case → List ℕ
-blank c = replicate (imageLength (orderOf c)) 0
+blank c = replicate (imageLength (packedHeader (orderOf c))) 0
 
 abbrev packedCase : bare.Case → Case
 packedCase c =
     let image = packed (orderOf c) (blank c) .output in
-    record {
-      offer = record {
-        image = image;
-        approved = take (headerSizeFor (sumLength (orderOf c .ids))) image;
-        map = c .map;
-        table = c .table;
-        mode = c .mode;
-        expected = 1;
-      };
-      memory = c .memory;
-    }
+    let approved = take (headerSizeFor (sumLength (orderOf c .ids))) image in
+    record { offer = offer approved (c .given .map) (c .given .table) (c .given .mode) 1 image; memory = c .memory }
 
 -- whether each file is packed
 abbrev allPacked : List bare.Case → Bool
@@ -76,11 +69,7 @@ unfolding packed
 packed-returns c e =
     ap (λ (x : Outcome). x .code)
     (load-of-pack (orderOf c) (blank c) refl e (packed (orderOf c) (blank c) .output) (record { size = refl; front = refl; rest = refl })
-    (c .map) (c .table) (c .mode) (replicate (c .memory) 0) (replicate 40 0))
-
-cond-parts : (b c : Bool) → T (cond b c false) → T b × T c
-cond-parts true c t = (tt, t)
-cond-parts false c t = absurd t
+    (c .given .map) (c .given .table) (c .given .mode) (replicate (c .memory) 0) (replicate recordLength 0))
 
 all-packed : (cs : List bare.Case) → T (allPacked cs) → map returned (map packedCase cs) ≡ map bare.returned cs
 all-packed [] t = refl
@@ -103,30 +92,20 @@ packed-given = all-packed bare.cases cases-packed ∙ bare.each-code-given
 
 -- an image on a unit of one region of 16 bytes at 0x1000 and no CPUID instruction
 abbrev onUnit : List ℕ → List ℕ → ℕ → Case
-onUnit image approved expected =
-    record {
-      offer = record {
-        image = image;
-        approved = approved;
-        map = littleBytes 8 0x1000 ++ littleBytes 8 16;
-        table = [];
-        mode = 64;
-        expected = expected;
-      };
-      memory = 16;
-    }
+onUnit image approved signature =
+    record { offer = offer approved (littleBytes 8 0x1000 ++ littleBytes 8 16) [] 64 signature image; memory = 16 }
 
-unit-taken : (image approved : List ℕ) (expected : ℕ) → ArgumentsTaken (onUnit image approved expected .offer) 16
+unit-taken : (image approved : List ℕ) (signature : ℕ) → ArgumentsTaken (onUnit image approved signature .offer) 16
 unfolding little littleBytes ascending ordered total records
-unit-taken image approved expected = refl
+unit-taken image approved signature = refl
 
 abbrev headerCase : OpenCase → Case
 headerCase x = onUnit (x .image) (x .approved) (x .signature)
 
--- whether each record has 40 bytes, and each code is one of the header's
+-- whether each record has its length, and each code is one of the header's
 abbrev allWhole : List OpenCase → Bool
 allWhole [] = true
-allWhole (x ∷ xs) = cond (eqb (length (x .held)) 40) (allWhole xs) false
+allWhole (x ∷ xs) = cond (eqb (length (x .old)) recordLength) (allWhole xs) false
 
 abbrev allHeader : List ℕ → Bool
 allHeader [] = true
@@ -135,12 +114,13 @@ allHeader (c ∷ cs) = cond (among headerCodes c) (allHeader cs) false
 all-header : (xs : List OpenCase) → T (allWhole xs) → T (allHeader (map openCode xs)) → map returned (map headerCase xs) ≡ map openCode xs
 all-header [] w t = refl
 all-header (x ∷ xs) w t =
-    let p = cond-parts (eqb (length (x .held)) 40) (allWhole xs) w in
+    let p = cond-parts (eqb (length (x .old)) recordLength) (allWhole xs) w in
     let q = cond-parts (among headerCodes (openCode x)) (allHeader (map openCode xs)) t in
     ap₂ (λ (c : ℕ) (cs : List ℕ). c ∷ cs)
-    (ap (λ (y : Outcome). y .code) (load-answered (headerCase x .offer) (replicate 16 0) (replicate 40 0) (length-replicate {A = ℕ} 40 0))
+    (ap (λ (y : Outcome). y .code)
+    (load-answered (headerCase x .offer) (replicate 16 0) (replicate recordLength 0) (length-replicate {A = ℕ} recordLength 0))
     ∙ ap (λ (a : Answer). a .code)
-    (header-agrees (headerCase x .offer) (x .output) (x .held) (eqb→eq (length (x .held)) 40 (p .0)) 16
+    (header-agrees (headerCase x .offer) (x .output) (x .old) (eqb→eq (length (x .old)) recordLength (p .0)) 16
     (unit-taken (x .image) (x .approved) (x .signature)) (q .0)))
     (all-header xs (p .1) (q .1))
 
@@ -155,16 +135,20 @@ header-given =
 
 -- ---- 13 to 15: a first block that is bad, of a file that is not short
 
-module _ (o : Offer) (memory held : List ℕ) where
-  first-bad : length held ≡ 40 → firstBroken (loadRules o (length memory)) ≡ 0 → 0 < header o .count → 8 ≤ fileLength (header o)
-      → (code : ℕ) → blockCode (header o) (block o) 0 ≡ code → code ≢ 0 → loaded o memory held .code ≡ code
+module _ (o : Offer) (memory old : List ℕ) where
+  first-bad : length old ≡ recordLength → firstBroken (loadRules o (length memory)) ≡ 0 → 0 < header o .stream .count
+      → 8 ≤ fileLength (header o .stream) → (code : ℕ) → blockCode (header o) (block o) 0 ≡ code → code ≢ 0
+      → loaded o memory old .code ≡ code
   unfolding run fileUpTo
-  first-bad whole taken some long code e ne =
-      let bad : ℕ = blockCode (header o) (block o) 0 in
-      ap (λ (x : Outcome). x .code) (load-answered o memory held whole)
-      ∙ ap (λ (c : ℕ). cond (eqb c 0) (loadAnswer o) (refused c) .code) taken
-      ∙ ap (λ (a : Answer). a .code) (bad-answers o 0 (omega (arith, proved-le (header o) (block o) 0)) some (λ z. ne (sym e ∙ z)) .answer)
-      ∙ ap (λ (b : Bool). answerOr (cond b (Stopped 16 0) Magic) bad 1 (stateAfter o 0) .code) (le-ltb (fileLength (header o)) 8 long)
+  first-bad fits taken some long code e ne =
+      ap (λ (x : Outcome). x .code) (load-answered o memory old fits)
+      ∙ ap (λ (early : ℕ). answerAfter early (loadAnswer o) .code) taken
+      ∙ ap (λ (a : Answer). a .code)
+      (bad-answers o 0 (omega (arith, proved-le (header o) (block o) 0)) some (λ z. ne (sym e ∙ z)) .answer)
+      ∙ ap
+      (λ (b : Bool). answerOf
+      (stopOr (badBlock (header o) (block o) 0) (halted (cond b (Stopped (stopAt 16 0)) Magic))) (stateAfter o 0 .tally) .code)
+      (le-ltb (fileLength (header o .stream)) 8 long)
       ∙ e
 
 -- one block of 41 bytes, with neither hash field nor data zero, and its hashsum
@@ -180,15 +164,11 @@ badRoot =
 abbrev sealed : ℕ → List ℕ → Header
 sealed padding root =
     record {
-      magic = 0xe6019598;
-      count = 1;
-      blockSize = 41;
+      magic = headerMagic;
+      stream = record { count = 1; blockSize = 41; hashsumLength = 32; ids = 2 ∷ 0 ∷ 0 ∷ 0 ∷ []; padding = padding };
       signature = 1;
       headerSize = 68;
-      hashsumLength = 32;
-      ids = 2 ∷ 0 ∷ 0 ∷ 0 ∷ [];
       scheme = 1;
-      padding = padding;
       root = root;
     }
 
@@ -203,25 +183,32 @@ blockCases = blockCase 0 (replicate 32 0) ∷ blockCase 1 badRoot ∷ blockCase 
 abbrev facts : Case → List ℕ
 facts c =
     let o = c .offer in
-    firstBroken (loadRules o (c .memory)) ∷ blockCode (header o) (block o) 0 ∷ header o .count ∷ fileLength (header o) ∷ []
+    firstBroken (loadRules o (c .memory)) ∷ blockCode (header o) (block o) 0 ∷ header o .stream .count ∷ fileLength (header o .stream) ∷ []
 
-block-facts : map facts blockCases ≡ (0 ∷ 13 ∷ 1 ∷ 9 ∷ []) ∷ (0 ∷ 14 ∷ 1 ∷ 8 ∷ []) ∷ (0 ∷ 15 ∷ 1 ∷ 9 ∷ []) ∷ []
-unfolding headerBytes idBytes littleBytes little same allZero ascending ordered total records hashsum sumLength anyUnknown digests.digest digests.digestLength digests.algorithms digests.algorithmOf compression.sha2 compression.joined compression.hashed compression.afterBlocks compression.compressed compression.afterRounds compression.round compression.summed compression.scheduled compression.withNext messages.padded messages.wordsAt tables.K256 tables.initial256
+abbrev blockFacts : List (List ℕ)
+blockFacts = (0 ∷ 13 ∷ 1 ∷ 9 ∷ []) ∷ (0 ∷ 14 ∷ 1 ∷ 8 ∷ []) ∷ (0 ∷ 15 ∷ 1 ∷ 9 ∷ []) ∷ []
+
+block-facts : map facts blockCases ≡ blockFacts
+unfolding headerBytes idBytes littleBytes little same allZero ascending ordered total records hashsum sumLength anyUnknown
+    digests.digest digests.digestLength digests.algorithms digests.algorithmOf
+    compression.sha2 compression.joined compression.hashed compression.afterBlocks compression.compressed compression.afterRounds
+    compression.round compression.summed compression.scheduled compression.withNext
+    messages.padded messages.wordsAt tables.K256 tables.initial256
 block-facts = refl
 
 bad-returns : (c : Case) (code long : ℕ) → facts c ≡ 0 ∷ suc code ∷ 1 ∷ (8 + long) ∷ [] → returned c ≡ suc code
 bad-returns c code long e =
     let o : Offer = c .offer in
     let fact : (i : ℕ) → getD (facts c) i 0 ≡ getD (0 ∷ suc code ∷ 1 ∷ (8 + long) ∷ []) i 0 = λ i. ap (λ (l : List ℕ). getD l i 0) e in
-    let n : header o .count ≡ 1 = fact 2 in
-    let size : fileLength (header o) ≡ 8 + long = fact 3 in
-    first-bad o (replicate (c .memory) 0) (replicate 40 0) (length-replicate {A = ℕ} 40 0)
+    let n : header o .stream .count ≡ 1 = fact 2 in
+    let size : fileLength (header o .stream) ≡ 8 + long = fact 3 in
+    first-bad o (replicate (c .memory) 0) (replicate recordLength 0) (length-replicate {A = ℕ} recordLength 0)
     (ap (λ (k : ℕ). firstBroken (loadRules o k)) (length-replicate {A = ℕ} (c .memory) 0) ∙ fact 0) (omega arith) (omega arith)
     (suc code) (fact 1) (λ z. omega (arith, z))
 
 block-given : map returned blockCases ≡ 13 ∷ 14 ∷ 15 ∷ []
 block-given =
-    let fact : (i : ℕ) → getD (map facts blockCases) i [] ≡ getD ((0 ∷ 13 ∷ 1 ∷ 9 ∷ []) ∷ (0 ∷ 14 ∷ 1 ∷ 8 ∷ []) ∷ (0 ∷ 15 ∷ 1 ∷ 9 ∷ []) ∷ []) i [] =
+    let fact : (i : ℕ) → getD (map facts blockCases) i [] ≡ getD blockFacts i [] =
     λ i. ap (λ (l : List (List ℕ)). getD l i []) block-facts in
     let x : returned (blockCase 0 (replicate 32 0)) ≡ 13 = bad-returns (blockCase 0 (replicate 32 0)) 12 1 (fact 0) in
     let y : returned (blockCase 1 badRoot) ≡ 14 = bad-returns (blockCase 1 badRoot) 13 0 (fact 1) in

@@ -1,36 +1,23 @@
--- Document 01, "On both sides of each line": the cases that it marks to be proved, and the empty write, as one table.
+-- FORMAT's worked cases E1 to E14, as one table.
 use mathlib.Core.Path.{_≡_, refl}
 use mathlib.Core.List.{List, [], _∷_, _++_, map}
 use Prim.Native.Nat.{ℕ, _-_, _^_}
 use lib.ListN.{replicate}
 use Rattle.octets.specs.Numbers.{little, littleBytes}
 use Rattle.octets.specs.Parts.{part}
-use Rattle.answers.specs.Answers.{Outcome, recordBytes}
+use Rattle.answers.specs.Answers.{Outcome, recordBytes, recordLength}
 use Rattle.answers.specs.Rules.{firstBroken}
 use Rattle.board.specs.Cpuid.{ascending, lookup}
 use Rattle.board.specs.Map.{ordered, total, uncovered, offset}
 use Rattle.board.specs.Records.{records}
 use Rattle.hashes.specs.Digests as digests
 use Rattle.chain.specs.Hashsum.{sumLength, anyUnknown}
-use Rattle.chain.specs.Pack.{Order, imageLength, packRules, packedHeader}
+use Rattle.chain.specs.Header.{imageLength}
+use Rattle.chain.specs.Pack.{Order, packRules, packedHeader}
 use Rattle.machine.specs.Bare.{runBare}
 use Rattle.machine.specs.Commands.{hasZero}
-use Rattle.machine.specs.Machine.{
-  storesFrom,
-  begins,
-  finished,
-  magicRead,
-  passed,
-  headerRead,
-  writeRead,
-  fillRead,
-  entryRead,
-  checkRead,
-  parametersRead,
-  react,
-  run,
-  trace,
-}
+use Rattle.machine.specs.Machine.{storesFrom, commandBegins, finished, magicRead, headerSays, headerRead}
+use Rattle.machine.specs.Machine.{writeRead, fillRead, entryRead, checkRead, parametersRead, react, run, trace}
 use Rattle.machine.specs.Memory.{applied}
 use Rattle.machine.proofs.Cases.{magic, write, fill, entry, check, leaf}
 
@@ -53,17 +40,19 @@ M = littleBytes 8 0x1000 ++ littleBytes 8 0x1000 ++ littleBytes 8 0x100000 ++ li
 -- ---- what the definitions say of a case
 
 abbrev ran : ℕ → List ℕ → Outcome
-ran mode commands = runBare (magic ++ commands ++ entry 0) M leaf mode (replicate 12288 0) (replicate 40 0)
+ran mode commands =
+    runBare (record { file = magic ++ commands ++ entry 0; map = M; table = leaf; mode = mode }) (replicate 12288 0)
+    (replicate recordLength 0)
 
 abbrev orderOf : List ℕ → ℕ → ℕ → Order
 orderOf ids blockSize file = record { file = replicate file 0; ids = ids; blockSize = blockSize; signature = 1 }
 
 abbrev packedSizes : Order → List ℕ
 packedSizes p =
-    firstBroken (packRules p (imageLength p))
+    firstBroken (packRules p (imageLength (packedHeader p)))
     ∷ packedHeader p .headerSize
-    ∷ packedHeader p .count
-    ∷ packedHeader p .padding
+    ∷ packedHeader p .stream .count
+    ∷ packedHeader p .stream .padding
     ∷ []
 
 abbrev pub shown : Case → List ℕ
@@ -108,5 +97,7 @@ lines =
 
 -- Each line holds.
 pub lines-hold : map (λ (l : Line). shown (l .case)) lines ≡ map (λ (l : Line). l .says) lines
-unfolding little littleBytes ascending lookup ordered total uncovered offset records runBare recordBytes hasZero storesFrom begins finished magicRead passed headerRead writeRead fillRead entryRead checkRead parametersRead react run trace applied sumLength anyUnknown digests.digestLength digests.algorithms digests.algorithmOf
+unfolding little littleBytes ascending lookup ordered total uncovered offset records runBare recordBytes hasZero storesFrom
+    commandBegins finished magicRead headerSays headerRead writeRead fillRead entryRead checkRead parametersRead react run trace applied
+    sumLength anyUnknown digests.digestLength digests.algorithms digests.algorithmOf
 lines-hold = refl

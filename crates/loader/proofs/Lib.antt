@@ -2,8 +2,10 @@ pub mod Calls
 pub mod Cases
 pub mod CodeLaws
 pub mod DocumentCases
+pub mod FileEnd
 pub mod Fold
 pub mod Images
 pub mod LoadLaws
-pub mod Places
+pub mod MemoryBytes
+pub mod Refusals
 pub mod Theorems

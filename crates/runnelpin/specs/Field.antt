@@ -7,5 +7,5 @@ use Rattle.runnelpin.specs.declared.Field.{Field}
 
 -- the signature field
 abbrev pub fieldOf : List ℕ → List ℕ → ℕ → Field
-fieldOf image approved expected =
-    record { start = fieldStart image approved expected; length = length (signatureField image approved expected) }
+fieldOf image approved signature =
+    record { start = fieldStart image approved signature; length = length (signatureField image approved signature) }

@@ -67,7 +67,8 @@ pub extern "C" fn runnelpin_pack(
 #[no_mangle]
 pub extern "C" fn runnelpin_signature(image: &[u8], header: &[u8], signature_length: u64) -> Field
     ensures { λ r. ⌜ r ≡ fieldOf (now (image .entry)) (now (header .entry)) «signature_length» ⌝ }
-    ensures { λ r. ⌜ part (now (image .entry)) (r .start) (r .length) ≡ signatureField (now (image .entry)) (now (header .entry)) «signature_length» ⌝ }
+    ensures { λ r. ⌜ part (now (image .entry)) (r .start) (r .length)
+        ≡ signatureField (now (image .entry)) (now (header .entry)) «signature_length» ⌝ }
 {
     let field = chain::open::signature_field(image, header, signature_length);
     let length = field.len() as u64;
@@ -90,7 +91,8 @@ pub extern "C" fn runnelpin_run(
     memory: &mut [u8],
     answer: &mut [u8],
 ) -> u64
-    ensures { λ r. ⌜ runBare (now (file .entry)) (now (map .entry)) (now (cpuid .entry)) mode (now (memory .entry)) (now (answer .entry))
+    ensures { λ r. ⌜ runBare (record { file = now (file .entry); map = now (map .entry); table = now (cpuid .entry); mode = mode })
+        (now (memory .entry)) (now (answer .entry))
         ≡ record { code = r; answer = now (answer .exit); lent = now (memory .exit) } ⌝ }
 {
     machine::bare::run_bare(file, map, cpuid, mode, memory, answer)
@@ -114,7 +116,7 @@ pub extern "C" fn runnelpin_load(
       map = now (map .entry);
       table = now (cpuid .entry);
       mode = mode;
-      expected = «signature_length»;
+      signature = «signature_length»;
     })
         (now (memory .entry)) (now (answer .entry))
         ≡ record { code = r; answer = now (answer .exit); lent = now (memory .exit) } ⌝ }
