@@ -50,6 +50,11 @@ digestLength-high i l = length-by i (has-none (omega arith) (omega arith) (omega
 pub digest-in-sixty-four : (i : ℕ) (m : List ℕ) → length (inSixtyFour (digest i m)) ≡ 64
 digest-in-sixty-four i m = length-inSixtyFour (digest i m) (omega (arith, length-digest i m, digestLength-most i))
 
+-- two results that the promise of the call `digest` allows are equal: the 64 bytes and the length
+pub digest-determined : (i : ℕ) (m : List ℕ) {x y : List ℕ} {n k : ℕ} → x ≡ inSixtyFour (digest i m) → n ≡ digestLength i
+    → y ≡ inSixtyFour (digest i m) → k ≡ digestLength i → (x ≡ y) × (n ≡ k)
+digest-determined i m e f g h = (e ∙ sym g, f ∙ sym h)
+
 -- ---- a message in pieces: begin, any number of pieces fed one after the other, and finish give the digest of the pieces joined
 
 -- from one hasher to another by pieces fed one after the other, each as the call `fed` promises it
