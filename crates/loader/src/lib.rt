@@ -5,7 +5,7 @@ ghost use lib.ListN.{length};
 ghost use Rattle.answers.specs.Rules.{firstBroken};
 ghost use Rattle.machine.specs.Machine.{answerOf};
 ghost use Rattle.loader.specs.Contracts.{earlyRules, Loadable, offerOf, BlocksGive, LoadGives};
-ghost use Rattle.loader.specs.Load as spec;
+ghost use Rattle.loader.specs.Load.{loaded};
 use answers::Answer;
 use answers::Stop;
 use answers::codes;
@@ -31,7 +31,7 @@ pub fn load(
     memory: &mut [u8],
     answer: &mut [u8],
 ) -> u64
-    ensures { λ r. ⌜ spec.loaded (record {
+    ensures { λ r. ⌜ loaded (record {
       image = now (image .entry);
       approved = now (header .entry);
       map = now (map .entry);
@@ -49,7 +49,7 @@ pub fn load(
     answers::write_answer(answer, a)
 }
 
-// What load answers: the refusal by 1 to 12, or what the blocks come to. The header is read once, where it is judged.
+// What load answers: the refusal by 1 to 12, or what the blocks come to. The header is read once, as it is judged.
 fn load_answer(
     image: &[u8],
     approved: &[u8],
