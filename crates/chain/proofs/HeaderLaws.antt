@@ -18,12 +18,13 @@ use Rattle.answers.specs.Rules.{Rule, rule, firstBroken, signatureRules, sizeRu
 use Rattle.answers.proofs.RuleLaws.{zero-all-hold, all-hold-zero, both-hold, hold-both}
 use Rattle.chain.specs.Blocks.{blockOf}
 use Rattle.chain.specs.Hashsum.{sumLength, anyUnknown}
-use Rattle.chain.specs.Header.{Header, Stream, headerOf, headerMagic, headerSizeFor, headerBytes, idBytes, dataLength, imageLength}
+use Rattle.chain.specs.Header.{Header, Stream, headerOf, headerMagic, headerSizeFor, headerBytes, idBytes, blockDataLength}
+use Rattle.chain.specs.Header.{imageLength}
 use Rattle.chain.specs.Header.{firstBlock, fieldRules, imageRules, streamRules}
 
 -- block data length
 abbrev pub blockData : Stream → ℕ
-blockData s = dataLength (s .blockSize) (s .hashsumLength)
+blockData s = blockDataLength (s .blockSize) (s .hashsumLength)
 
 -- ---- what passes
 

@@ -12,7 +12,8 @@ use Rattle.answers.specs.declared.Answer.{Answer}
 use Rattle.chain.specs.Blocks.{provedBlocks, blocksStop}
 use Rattle.chain.specs.Code.{streamOf, headerWith, orderOf}
 use Rattle.chain.specs.Hashsum.{hashsum, sumLength, idRules}
-use Rattle.chain.specs.Header.{Header, Stream, headerOf, dataLength, fileLength, firstBlock, imageLength, blockSizeRules, imageRules}
+use Rattle.chain.specs.Header.{Header, Stream, headerOf, blockDataLength, fileLength, firstBlock, imageLength}
+use Rattle.chain.specs.Header.{blockSizeRules, imageRules}
 use Rattle.chain.specs.Open.{openAnswer, provedFile}
 use Rattle.chain.specs.Pack.{Order, packRules, packedHeader, blocksFrom}
 use Rattle.chain.specs.declared.blocks.ProvedBlocks.{ProvedBlocks}
@@ -42,7 +43,7 @@ pub record JudgedBy (rules : List Rule) (approved : List ℕ) (r : Judgement) : 
 -- what the length of a file stands on
 pub record Sized (s : Stream) : Type 0 where
   pub above : s .hashsumLength < s .blockSize
-  pub padded : s .padding < dataLength (s .blockSize) (s .hashsumLength)
+  pub padded : s .padding < blockDataLength (s .blockSize) (s .hashsumLength)
   pub counted : 0 < s .count
 
 -- ---- blocks
@@ -108,7 +109,7 @@ abbrev pub startOf : Fields → ℕ → ℕ
 startOf h k = firstBlock (headerWith h []) + k * h .stream .«block_size»
 
 abbrev pub roomOf : Fields → ℕ
-roomOf h = dataLength (h .stream .«block_size») (h .stream .«hashsum_length»)
+roomOf h = blockDataLength (h .stream .«block_size») (h .stream .«hashsum_length»)
 
 -- the blocks from number k on stand in the output
 abbrev pub Written : List ℕ → Fields → ℕ → List ℕ → Type 0

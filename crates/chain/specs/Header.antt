@@ -66,12 +66,12 @@ abbrev pub headerSizeFor : ℕ → ℕ
 headerSizeFor sum = 36 + sum
 
 -- B2: block data length = block size - hashsum length
-abbrev pub dataLength : ℕ → ℕ → ℕ
-dataLength blockSize hashsumLength = blockSize - hashsumLength
+abbrev pub blockDataLength : ℕ → ℕ → ℕ
+blockDataLength blockSize hashsumLength = blockSize - hashsumLength
 
 -- B9: file length = block count x block data length - padding length
 abbrev pub fileLength : Stream → ℕ
-fileLength s = s .count * dataLength (s .blockSize) (s .hashsumLength) - s .padding
+fileLength s = s .count * blockDataLength (s .blockSize) (s .hashsumLength) - s .padding
 
 -- I1, I2: the image is header, signature field, blocks: where the first block begins, and the image's length
 abbrev pub firstBlock : Header → ℕ
@@ -89,7 +89,7 @@ abbrev pub countRules : Stream → List Rule
 countRules s =
     rule 11 (eqb (s .count) 0)
     ∷ blockSizeRules (s .blockSize) (s .hashsumLength)
-    ++ rule 11 (leb (dataLength (s .blockSize) (s .hashsumLength)) (s .padding))
+    ++ rule 11 (leb (blockDataLength (s .blockSize) (s .hashsumLength)) (s .padding))
     ∷ []
 
 -- N5 to N11, of an approved header of so many bytes, where a signature of this length is expected

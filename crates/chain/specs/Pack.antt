@@ -7,7 +7,7 @@ use lib.ListN.{length, replicate}
 use Rattle.octets.specs.Parts.{part}
 use Rattle.answers.specs.Rules.{Rule, rule, firstBroken, signatureRules, sizeRules}
 use Rattle.chain.specs.Hashsum.{hashsum, sumLength, idRules}
-use Rattle.chain.specs.Header.{Header, headerMagic, headerSizeFor, headerBytes, dataLength, imageLength, blockSizeRules}
+use Rattle.chain.specs.Header.{Header, headerMagic, headerSizeFor, headerBytes, blockDataLength, imageLength, blockSizeRules}
 
 -- what is packed, and how: the file, the four hash IDs, block size and signature length
 pub record Order : Type 0 where
@@ -18,7 +18,7 @@ pub record Order : Type 0 where
 
 -- K1: block data length
 abbrev pub room : Order → ℕ
-room p = dataLength (p .blockSize) (sumLength (p .ids))
+room p = blockDataLength (p .blockSize) (sumLength (p .ids))
 
 -- K2: as few blocks as hold the file
 abbrev pub blocks : Order → ℕ

@@ -29,7 +29,7 @@ use Rattle.chain.proofs.GivenCodes.{among, OpenWay, open-way, block-code}
 use Rattle.chain.proofs.HeaderLaws.{stream-passed}
 use Rattle.chain.proofs.OpenLaws.{ButSignature, unwritten, refusing, proving, outcome, opened-is, outcome-zero, outcome-done}
 use Rattle.chain.proofs.Theorems.{open-of-pack}
-use Rattle.machine.specs.Bare.{Bare, bareRules, bareAnswer, bareStores, runBare}
+use Rattle.machine.specs.Bare.{Bare, bareRules, bareAnswerMade, bareStoresMade, runBare}
 use Rattle.machine.specs.Machine.{Setting, State, Store, settingOf, begun, run, trace, halted, stopOr, answerOf}
 use Rattle.machine.specs.Memory.{applied}
 use Rattle.machine.specs.declared.Phase.{Phase}
@@ -136,12 +136,12 @@ module _ (o : Offer) (h : Opens o) where
       storesBy : ℕ → ℕ → List Store
       storesBy early size = writtenAfter early (trace (on size) (begun size) (file o))
 
-      answers : answerMade o n ≡ bareAnswer (bareOf o (file o)) n
+      answers : answerMade o n ≡ bareAnswerMade (bareOf o (file o)) n
       answers =
           ap (answerAfter (firstBroken (loadRules o n))) (whole-answer (stopAt 27 (fileLength (header o .stream))))
           ∙ ap₂ answerBy (same-code n) (sym (whole-file o sound))
 
-      made : storesMade o n ≡ bareStores (bareOf o (file o)) n
+      made : storesMade o n ≡ bareStoresMade (bareOf o (file o)) n
       made =
           ap (λ (k : ℕ). writtenAfter (firstBroken (loadRules o n)) (storesAfter o k)) (h .all)
           ∙ ap₂ storesBy (same-code n) (sym (whole-file o sound))

@@ -12,7 +12,7 @@ use Rattle.answers.proofs.RuleLaws.{both-hold}
 use Rattle.board.specs.Cpuid.{tableRules}
 use Rattle.board.specs.Map.{mapRules}
 use Rattle.board.specs.Reach.{modeRules}
-use Rattle.machine.specs.Bare.{Bare, bareRules, bareSetting, bareEnd, bareAnswer, bareStores, runBare}
+use Rattle.machine.specs.Bare.{Bare, bareRules, bareSetting, bareEnd, bareAnswerMade, bareStoresMade, runBare}
 use Rattle.machine.specs.Contracts.{Ready}
 use Rattle.machine.specs.Machine.{State, Store, begun, trace, answerOf, halted, stopOr}
 use Rattle.machine.specs.Memory.{applied}
@@ -43,7 +43,8 @@ module _ (b : Bare) where
     pub bare-unwritten : length old ≢ recordLength → runBare b memory old ≡ record { code = 1; answer = old; lent = memory }
     unfolding runBare
     bare-unwritten =
-        answered-unwritten old (bareAnswer b (length memory)) memory (applied (bareSetting b .map) memory (bareStores b (length memory)))
+        answered-unwritten old (bareAnswerMade b (length memory)) memory
+        (applied (bareSetting b .map) memory (bareStoresMade b (length memory)))
 
     module _ (fits : length old ≡ recordLength) {r : ℕ} {h : List ℕ} (a : Answer) (code : r ≡ a .code) (bytes : h ≡ recordBytes a) where
       abbrev early : ℕ

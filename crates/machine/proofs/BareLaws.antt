@@ -17,7 +17,7 @@ use Rattle.board.specs.Cpuid.{tableRules}
 use Rattle.board.specs.Map.{mapRules}
 use Rattle.board.specs.Reach.{modeRules}
 use Rattle.board.proofs.MapLaws.{MapTaken, map-means}
-use Rattle.machine.specs.Bare.{Bare, bareRules, bareSetting, bareEnd, bareAnswer, bareStores, runBare}
+use Rattle.machine.specs.Bare.{Bare, bareRules, bareSetting, bareEnd, bareAnswerMade, bareStoresMade, runBare}
 use Rattle.machine.specs.Machine.{Store, begun, trace, answerOf, halted, stopOr}
 use Rattle.machine.specs.Memory.{applied}
 use Rattle.machine.specs.declared.Phase.{Phase}
@@ -36,7 +36,7 @@ module _ (b : Bare) where
   pub bare-cases : (P : Answer → List Store → Type 0) (memory : ℕ) → ((code : ℕ) → 1 ≤ code → code ≤ 3 → P (refused code) [])
       → (firstBroken (bareRules b memory) ≡ 0 → (stop : Stop) → bareEnd b .phase ≡ Stopped stop → Ended (bareSetting b) (bareEnd b) stop
       → P (answerOf stop (bareEnd b .tally)) (trace (bareSetting b) (begun (length (b .file))) (b .file)))
-      → P (bareAnswer b memory) (bareStores b memory)
+      → P (bareAnswerMade b memory) (bareStoresMade b memory)
   bare-cases P memory f g =
       after-cases early whole stores P
       (λ e. let (stop, q, h) = bare-ended in
@@ -61,7 +61,7 @@ module _ (b : Bare) where
 
   -- the answer of one that is not
   pub bare-runs : (memory : ℕ) {stop : Stop} → firstBroken (bareRules b memory) ≡ 0 → bareEnd b .phase ≡ Stopped stop
-      → bareAnswer b memory ≡ answerOf stop (bareEnd b .tally)
+      → bareAnswerMade b memory ≡ answerOf stop (bareEnd b .tally)
   bare-runs memory {stop} e q =
       let otherwise = stopAt 27 (length (b .file)) in
       cond-eq (firstBroken (bareRules b memory)) 0 (answerOf (stopOr otherwise (halted (bareEnd b .phase))) (bareEnd b .tally))
@@ -87,8 +87,8 @@ module _ (b : Bare) where
   -- with a record of its length: the code returned, the record, and memory as the stores make it
   pub bare-answered : (memory old : List ℕ) → length old ≡ recordLength
       → runBare b memory old
-      ≡ given (bareAnswer b (length memory)) (applied (bareSetting b .map) memory (bareStores b (length memory)))
+      ≡ given (bareAnswerMade b (length memory)) (applied (bareSetting b .map) memory (bareStoresMade b (length memory)))
   unfolding runBare
   bare-answered memory old fits =
-      answered-given old (bareAnswer b (length memory)) memory
-      (applied (bareSetting b .map) memory (bareStores b (length memory))) fits
+      answered-given old (bareAnswerMade b (length memory)) memory
+      (applied (bareSetting b .map) memory (bareStoresMade b (length memory))) fits

@@ -21,7 +21,7 @@ use Rattle.board.specs.Cpuid.{tableRules}
 use Rattle.board.specs.Map.{Region, regions, ordered, total, offset, mapRules}
 use Rattle.board.specs.Reach.{limit, modeRules}
 use Rattle.board.proofs.MapLaws.{Ordered, ordered-holds, Covered, ram-covered, offset-injective, offset-inside}
-use Rattle.machine.specs.Bare.{Bare, bareRules, bareSetting, bareEnd, bareAnswer, bareStores, runBare}
+use Rattle.machine.specs.Bare.{Bare, bareRules, bareSetting, bareEnd, bareAnswerMade, bareStoresMade, runBare}
 use Rattle.machine.specs.Commands.{address}
 use Rattle.machine.specs.Machine.{Setting, State, Store, settingOf, begun, run, trace, halted, stopOr, answerOf}
 use Rattle.machine.specs.Memory.{applied}
@@ -367,7 +367,7 @@ module _ (b : Bare) where
 
   -- the memory that the stores leave
   abbrev after : List ℕ → List ℕ
-  after memory = applied (regions (b .map)) memory (bareStores b (length memory))
+  after memory = applied (regions (b .map)) memory (bareStoresMade b (length memory))
 
   -- the same call with another file
   abbrev withFile : List ℕ → Bare
@@ -376,26 +376,26 @@ module _ (b : Bare) where
   -- What the call returns and leaves: with a record of its length the answer's code, the answer, and memory as the stores
   -- make it; with another 1, and nothing written, whatever stores the file would cause.
   pub bare-call : (memory old : List ℕ)
-      → (length old ≡ recordLength → runBare b memory old ≡ given (bareAnswer b (length memory)) (after memory))
+      → (length old ≡ recordLength → runBare b memory old ≡ given (bareAnswerMade b (length memory)) (after memory))
       × (length old ≢ recordLength → runBare b memory old ≡ unwritten old memory)
   unfolding runBare
   bare-call memory old =
-      (bare-answered b memory old, answered-unwritten old (bareAnswer b (length memory)) memory (after memory))
+      (bare-answered b memory old, answered-unwritten old (bareAnswerMade b (length memory)) memory (after memory))
 
   -- On every refusal the entry is 0.
-  pub refusal-has-no-entry : (memory : ℕ) → bareAnswer b memory .code ≢ 0 → bareAnswer b memory .entry ≡ 0
+  pub refusal-has-no-entry : (memory : ℕ) → bareAnswerMade b memory .code ≢ 0 → bareAnswerMade b memory .entry ≡ 0
   refusal-has-no-entry memory =
       bare-cases b (λ (a : Answer) (xs : List Store). a .code ≢ 0 → a .entry ≡ 0) memory (λ code l u n. refl)
       (λ h stop e q n. ap (λ (t : Bool). cond t (bareEnd b .tally .entry) 0) (ne-eqb (stop .code) 0 n))
 
   -- The record's bytes stored is the number of the stores made.
-  pub record-counts-stores : (memory : ℕ) → bareAnswer b memory .stored ≡ length (bareStores b memory)
+  pub record-counts-stores : (memory : ℕ) → bareAnswerMade b memory .stored ≡ length (bareStoresMade b memory)
   record-counts-stores memory =
       bare-cases b (λ (a : Answer) (xs : List Store). a .stored ≡ length xs) memory (λ code l u. refl)
       (λ h stop e q. stored-counts-stores setting (b .file))
 
   -- Its place is the machine's.
-  pub bare-place-said : (memory : ℕ) → bareAnswer b memory .place ≡ placeFor setting (b .file) (bareAnswer b memory .code)
+  pub bare-place-said : (memory : ℕ) → bareAnswerMade b memory .place ≡ placeFor setting (b .file) (bareAnswerMade b memory .code)
   bare-place-said memory =
       bare-cases b (λ (a : Answer) (xs : List Store). a .place ≡ placeFor setting (b .file) (a .code)) memory
       (λ code l u. sym (simp (lt-leb 17 code (omega arith), ne-eqb code 27 (λ e. omega arith))))
@@ -406,7 +406,7 @@ module _ (b : Bare) where
       → (runBare b memory old .code ≤ 3) ⊎ ((16 ≤ runBare b memory old .code) × (runBare b memory old .code ≤ 27))
   unfolding runBare
   bare-codes memory old =
-      answered-cases old (bareAnswer b (length memory)) memory (after memory) (λ (o : Outcome). Given (o .code))
+      answered-cases old (bareAnswerMade b (length memory)) memory (after memory) (λ (o : Outcome). Given (o .code))
       (λ e. bare-cases b (λ (a : Answer) (xs : List Store). Given (a .code)) (length memory) (λ code l u. inl u)
       (λ h stop q r. by-end stop r))
       (λ e. inl (lit≤ tt))
@@ -422,7 +422,7 @@ module _ (b : Bare) where
 
   -- After a bare run: a memory byte whose address no store has is unchanged, and one that has is the last such store's byte.
   pub bare-byte-unchanged : (memory old : List ℕ) (a : ℕ) → length old ≡ recordLength → Covered (regions (b .map)) a
-      → ((x : Store) → List·Memᴰ x (bareStores b (length memory)) → x .address ≢ a)
+      → ((x : Store) → List·Memᴰ x (bareStoresMade b (length memory)) → x .address ≢ a)
       → getD (runBare b memory old .lent) (offset (regions (b .map)) a) 0 ≡ getD memory (offset (regions (b .map)) a) 0
   unfolding applied
   bare-byte-unchanged memory old a fits c none =
@@ -434,7 +434,7 @@ module _ (b : Bare) where
       (λ h stop q r n. byte-unchanged setting (bare-taken b (length memory) h .order) (b .file) memory a c n) none
 
   pub bare-byte-of-last-store : (memory old : List ℕ) (xs : List Store) (x : Store) (ys : List Store) → length old ≡ recordLength
-      → bareStores b (length memory) ≡ xs ++ (x ∷ ys) → ((y : Store) → List·Memᴰ y ys → y .address ≢ x .address)
+      → bareStoresMade b (length memory) ≡ xs ++ (x ∷ ys) → ((y : Store) → List·Memᴰ y ys → y .address ≢ x .address)
       → getD (runBare b memory old .lent) (offset (regions (b .map)) (x .address)) 0 ≡ x .byte
   bare-byte-of-last-store memory old xs x ys fits e last =
       ap (λ (o : Outcome). getD (o .lent) (offset (regions (b .map)) (x .address)) 0) (bare-answered b memory old fits)
@@ -447,7 +447,7 @@ module _ (b : Bare) where
       byte-of-last-store setting (t .order) (b .file) memory xs x ys s (omega (arith, t .lent)) last)
       e
 
-  found-first-stores-nothing : (memory : ℕ) → FoundFirst (bareAnswer b memory) → bareStores b memory ≡ []
+  found-first-stores-nothing : (memory : ℕ) → FoundFirst (bareAnswerMade b memory) → bareStoresMade b memory ≡ []
   found-first-stores-nothing memory =
       bare-cases b (λ (a : Answer) (xs : List Store). FoundFirst a → xs ≡ []) memory (λ code l u n. refl) by-end
     where
@@ -463,7 +463,7 @@ module _ (b : Bare) where
       by-end h stop q r (inr n) = refused-first-none-stored setting (b .file) q n
 
   -- no stores leave memory as it was
-  unchanged : (memory : List ℕ) → bareStores b (length memory) ≡ [] → after memory ≡ memory
+  unchanged : (memory : List ℕ) → bareStoresMade b (length memory) ≡ [] → after memory ≡ memory
   unfolding applied
   unchanged memory e = ap (applied (regions (b .map)) memory) e
 
@@ -471,40 +471,41 @@ module _ (b : Bare) where
   pub early-codes-keep-memory : (memory old : List ℕ) → Early (runBare b memory old .code) → runBare b memory old .lent ≡ memory
   unfolding runBare
   early-codes-keep-memory memory old =
-      answered-cases old (bareAnswer b (length memory)) memory (after memory) (λ (o : Outcome). Early (o .code) → o .lent ≡ memory)
+      answered-cases old (bareAnswerMade b (length memory)) memory (after memory) (λ (o : Outcome). Early (o .code) → o .lent ≡ memory)
       (λ e n. unchanged memory (found-first-stores-nothing (length memory) (first n))) (λ e n. refl)
     where
-      first : Early (bareAnswer b (length memory) .code) → FoundFirst (bareAnswer b (length memory))
+      first : Early (bareAnswerMade b (length memory) .code) → FoundFirst (bareAnswerMade b (length memory))
       first (inl n) = inl n
       first (inr n) = inr (inl n)
 
   -- A refusal that is found before the first command changes no byte of memory: 1 to 3, 16, and 17 to 27 at place 8.
-  pub refused-first-keeps-memory : (memory old : List ℕ) → FoundFirst (bareAnswer b (length memory)) → runBare b memory old .lent ≡ memory
+  pub refused-first-keeps-memory : (memory old : List ℕ) → FoundFirst (bareAnswerMade b (length memory))
+      → runBare b memory old .lent ≡ memory
   unfolding runBare
   refused-first-keeps-memory memory old first =
-      answered-cases old (bareAnswer b (length memory)) memory (after memory) (λ (o : Outcome). o .lent ≡ memory)
+      answered-cases old (bareAnswerMade b (length memory)) memory (after memory) (λ (o : Outcome). o .lent ≡ memory)
       (λ e. unchanged memory (found-first-stores-nothing (length memory) first)) (λ n. refl)
 
   -- Nor does a run that has done no command.
-  pub none-done-keeps-memory : (memory old : List ℕ) → bareAnswer b (length memory) .commands ≡ 0 → runBare b memory old .lent ≡ memory
+  pub none-done-keeps-memory : (memory old : List ℕ) → bareAnswerMade b (length memory) .commands ≡ 0 → runBare b memory old .lent ≡ memory
   unfolding runBare
   none-done-keeps-memory memory old e =
-      answered-cases old (bareAnswer b (length memory)) memory (after memory) (λ (o : Outcome). o .lent ≡ memory)
+      answered-cases old (bareAnswerMade b (length memory)) memory (after memory) (λ (o : Outcome). o .lent ≡ memory)
       (λ f. unchanged memory
       (bare-cases b (λ (a : Answer) (xs : List Store). a .commands ≡ 0 → xs ≡ []) (length memory) (λ code l u n. refl)
       (λ h stop q r n. none-done-none-stored setting (b .file) n (subst NotStoring (sym q) tt)) e))
       (λ n. refl)
 
   -- A refused command stores nothing: the stores made are those of the bytes before its first one, its place.
-  pub bare-refused-command-stores-nothing : (memory : ℕ) → 17 ≤ bareAnswer b memory .code → bareAnswer b memory .code ≤ 26
-      → bareStores b memory ≡ made setting (take (bareAnswer b memory .place) (b .file))
+  pub bare-refused-command-stores-nothing : (memory : ℕ) → 17 ≤ bareAnswerMade b memory .code → bareAnswerMade b memory .code ≤ 26
+      → bareStoresMade b memory ≡ made setting (take (bareAnswerMade b memory .place) (b .file))
   bare-refused-command-stores-nothing memory =
       bare-cases b (λ (a : Answer) (xs : List Store). 17 ≤ a .code → a .code ≤ 26 → xs ≡ made setting (take (a .place) (b .file))) memory
       (λ code l u i j. absurd (omega arith))
       (λ h stop q r i j. refused-command-stores-nothing setting (b .file) q i j .1)
 
   -- Of a command that stored a byte the whole range, in which the store lies, is RAM and reachable.
-  pub bare-judged-to-its-end : (memory : ℕ) (x : Store) → List·Memᴰ x (bareStores b memory) → StoreOf setting (b .file) x
+  pub bare-judged-to-its-end : (memory : ℕ) (x : Store) → List·Memᴰ x (bareStoresMade b memory) → StoreOf setting (b .file) x
   bare-judged-to-its-end memory x =
       bare-cases b (λ (a : Answer) (xs : List Store). List·Memᴰ x xs → StoreOf setting (b .file) x) memory
       (λ code l u m. absurd (List·Memᴰ·not-nil m)) (λ h stop q r m. judged-to-its-end setting (b .file) x m)
@@ -512,15 +513,15 @@ module _ (b : Bare) where
   -- Every byte of memory, by its index: one that no store goes to is as it was, and one that a store goes to is the last
   -- such store's byte; memory keeps its length.
   pub bare-index-unchanged : (memory old : List ℕ) (i : ℕ)
-      → ((x : Store) → List·Memᴰ x (bareStores b (length memory)) → offset (regions (b .map)) (x .address) ≢ i)
+      → ((x : Store) → List·Memᴰ x (bareStoresMade b (length memory)) → offset (regions (b .map)) (x .address) ≢ i)
       → getD (runBare b memory old .lent) i 0 ≡ getD memory i 0
   unfolding runBare
   bare-index-unchanged memory old i none =
-      answered-cases old (bareAnswer b (length memory)) memory (after memory) (λ (o : Outcome). getD (o .lent) i 0 ≡ getD memory i 0)
-      (λ e. byte-kept (regions (b .map)) memory (bareStores b (length memory)) i (λ x m q. none x m (sym q))) (λ n. refl)
+      answered-cases old (bareAnswerMade b (length memory)) memory (after memory) (λ (o : Outcome). getD (o .lent) i 0 ≡ getD memory i 0)
+      (λ e. byte-kept (regions (b .map)) memory (bareStoresMade b (length memory)) i (λ x m q. none x m (sym q))) (λ n. refl)
 
   pub bare-index-of-last-store : (memory old : List ℕ) (i : ℕ) (xs : List Store) (x : Store) (ys : List Store) → length old ≡ recordLength
-      → i < length memory → bareStores b (length memory) ≡ xs ++ (x ∷ ys) → offset (regions (b .map)) (x .address) ≡ i
+      → i < length memory → bareStoresMade b (length memory) ≡ xs ++ (x ∷ ys) → offset (regions (b .map)) (x .address) ≡ i
       → ((y : Store) → List·Memᴰ y ys → offset (regions (b .map)) (y .address) ≢ i) → getD (runBare b memory old .lent) i 0 ≡ x .byte
   bare-index-of-last-store memory old i xs x ys fits inside e at last =
       ap (λ (o : Outcome). getD (o .lent) i 0) (bare-answered b memory old fits)
@@ -529,12 +530,12 @@ module _ (b : Bare) where
   pub bare-memory-length : (memory old : List ℕ) → length (runBare b memory old .lent) ≡ length memory
   unfolding runBare
   bare-memory-length memory old =
-      answered-cases old (bareAnswer b (length memory)) memory (after memory) (λ (o : Outcome). length (o .lent) ≡ length memory)
-      (λ e. length-applied (regions (b .map)) memory (bareStores b (length memory))) (λ n. refl)
+      answered-cases old (bareAnswerMade b (length memory)) memory (after memory) (λ (o : Outcome). length (o .lent) ≡ length memory)
+      (λ e. length-applied (regions (b .map)) memory (bareStoresMade b (length memory))) (λ n. refl)
 
   -- 27 is answered exactly where 1 to 3 are not, the file is the magic and whole commands, and none of them is an entry;
   pub bare-no-entry-exactly : (memory : ℕ)
-      → (bareAnswer b memory .code ≡ 27)
+      → (bareAnswerMade b memory .code ≡ 27)
       ↔ ((firstBroken (bareRules b memory) ≡ 0) × Complete setting (b .file) × NoEntry commands)
   bare-no-entry-exactly memory = (
     bare-cases b
@@ -548,7 +549,7 @@ module _ (b : Bare) where
 
   -- and 0 exactly where one of them is.
   pub bare-done-exactly : (memory : ℕ)
-      → (bareAnswer b memory .code ≡ 0)
+      → (bareAnswerMade b memory .code ≡ 0)
       ↔ ((firstBroken (bareRules b memory) ≡ 0) × Complete setting (b .file)
       × ((c : List ℕ) × LastEntry commands c))
   bare-done-exactly memory = (
@@ -572,11 +573,11 @@ module _ (b : Bare) where
   -- the entry is the last one's.
   pub bare-done-means : (memory old : List ℕ) → runBare b memory old .code ≡ 0
       → (bareEnd b .next ≡ length (b .file))
-      × ((c : List ℕ) × LastEntry commands c × (bareAnswer b (length memory) .entry ≡ address c))
+      × ((c : List ℕ) × LastEntry commands c × (bareAnswerMade b (length memory) .entry ≡ address c))
   unfolding runBare
   bare-done-means memory old =
-      answered-cases old (bareAnswer b (length memory)) memory (after memory)
-      (λ (o : Outcome). o .code ≡ 0 → Done (bareAnswer b (length memory)))
+      answered-cases old (bareAnswerMade b (length memory)) memory (after memory)
+      (λ (o : Outcome). o .code ≡ 0 → Done (bareAnswerMade b (length memory)))
       (λ e. bare-cases b (λ (a : Answer) (xs : List Store). a .code ≡ 0 → Done a) (length memory)
       (λ code l u n. absurd (omega arith))
       (λ h stop q r n.
@@ -589,11 +590,11 @@ module _ (b : Bare) where
           (bareEnd b .next ≡ length (b .file))
           × ((c : List ℕ) × LastEntry commands c × (a .entry ≡ address c))
 
-  -- Code and record do not depend on what memory held, nor do the stores (`bareStores`).
+  -- Code and record do not depend on what memory held, nor do the stores (`bareStoresMade`).
   pub memory-not-read : (m n old : List ℕ) → length m ≡ length n
       → (runBare b m old .code ≡ runBare b n old .code) × (runBare b m old .answer ≡ runBare b n old .answer)
   unfolding runBare
-  memory-not-read m n old e = rw e (answered-alike old (bareAnswer b (length n)) _ _ _ _)
+  memory-not-read m n old e = rw e (answered-alike old (bareAnswerMade b (length n)) _ _ _ _)
 
   -- Two files that differ only in reserved bytes get the same answer and memory.
   pub reserved-bytes-not-read : (other memory old : List ℕ) → Alike setting start (b .file) other
@@ -619,14 +620,14 @@ module _ (b : Bare) where
       long : length other ≡ length (b .file)
       long = sym (alike-length setting start (b .file) other q)
 
-      answers : bareAnswer (withFile other) (length memory) ≡ bareAnswer b (length memory)
+      answers : bareAnswerMade (withFile other) (length memory) ≡ bareAnswerMade b (length memory)
       answers =
           let n = length (b .file) in
           let (j, e) = alike-run setting start (b .file) other q .0 in
           ap (λ (n : ℕ). answerAt n other) long
           ∙ ap (λ (t : State). answerAfter (firstBroken (rules n)) (answerOf (stopOr (stopAt 27 n) (halted (t .phase))) (t .tally))) e
 
-      stores : bareStores (withFile other) (length memory) ≡ bareStores b (length memory)
+      stores : bareStoresMade (withFile other) (length memory) ≡ bareStoresMade b (length memory)
       stores =
           ap (λ (n : ℕ). storesAt n other) long
           ∙ ap (writtenAfter (firstBroken (rules (length (b .file))))) (alike-run setting start (b .file) other q .1)
@@ -636,7 +637,7 @@ module _ (b : Bare) where
   result-unique memory old x y e q = sym e ∙ q
 
   -- The record tells the answer: none of its numbers is cut to 64 bits,
-  pub bare-answer-fits : (memory : ℕ) → Fit (bareAnswer b memory)
+  pub bare-answer-fits : (memory : ℕ) → Fit (bareAnswerMade b memory)
   bare-answer-fits memory =
       bare-cases b (λ (a : Answer) (xs : List Store). Fit a) memory
       (λ code l u. record { code = omega arith; place = omega arith; commands = omega arith; stored = omega arith; entry = omega arith })
@@ -647,7 +648,8 @@ module _ (b : Bare) where
 
 -- so two calls that leave the same record have the same answer: code, place, counts and entry can be read back from it.
 pub bare-record-tells : (b c : Bare) (m n old other : List ℕ) → length old ≡ recordLength → length other ≡ recordLength
-    → runBare b m old .answer ≡ runBare c n other .answer → bareAnswer b (length m) ≡ bareAnswer c (length n)
+    → runBare b m old .answer ≡ runBare c n other .answer → bareAnswerMade b (length m) ≡ bareAnswerMade c (length n)
 bare-record-tells b c m n old other f g e =
-    record-injective (bareAnswer b (length m)) (bareAnswer c (length n)) (bare-answer-fits b (length m)) (bare-answer-fits c (length n))
+    record-injective (bareAnswerMade b (length m)) (bareAnswerMade c (length n)) (bare-answer-fits b (length m))
+    (bare-answer-fits c (length n))
     (sym (ap (λ (o : Outcome). o .answer) (bare-answered b m old f)) ∙ e ∙ ap (λ (o : Outcome). o .answer) (bare-answered c n other g))

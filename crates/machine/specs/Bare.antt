@@ -31,17 +31,17 @@ abbrev pub bareEnd : Bare → State
 bareEnd b = run (bareSetting b) (begun (length (b .file))) (b .file)
 
 -- what the call answers, and the stores that it makes; the whole file always stops the machine, so this 27 is never given
-abbrev pub bareAnswer : Bare → ℕ → Answer
-bareAnswer b memory =
+abbrev pub bareAnswerMade : Bare → ℕ → Answer
+bareAnswerMade b memory =
     answerAfter (firstBroken (bareRules b memory))
     (answerOf (stopOr (stopAt 27 (length (b .file))) (halted (bareEnd b .phase))) (bareEnd b .tally))
 
-abbrev pub bareStores : Bare → ℕ → List Store
-bareStores b memory =
+abbrev pub bareStoresMade : Bare → ℕ → List Store
+bareStoresMade b memory =
     writtenAfter (firstBroken (bareRules b memory)) (trace (bareSetting b) (begun (length (b .file))) (b .file))
 
 -- what a bare run returns, and leaves in the answer record, which held `old`, and in memory
 unfoldable pub runBare : Bare → List ℕ → List ℕ → Outcome
 runBare b memory old =
-    answered old (bareAnswer b (length memory)) memory
-    (applied (bareSetting b .map) memory (bareStores b (length memory)))
+    answered old (bareAnswerMade b (length memory)) memory
+    (applied (bareSetting b .map) memory (bareStoresMade b (length memory)))

@@ -7,7 +7,7 @@ use borrow.Author.Tests.{eq-eqb, ne-eqb, le-leb, lt-leb, leb-false}
 use lib.Dec.{leb}
 use Rattle.answers.specs.Rules.{rule}
 use Rattle.answers.proofs.RuleLaws.{AllHold, zero-all-hold, refuses}
-use Rattle.chain.specs.Header.{blockSizeRules, dataLength}
+use Rattle.chain.specs.Header.{blockSizeRules, blockDataLength}
 use Rattle.chain.specs.declared.header.Stream.{Stream}
 use Rattle.chain.proofs.header.count_code.Statement.{statement}
 use Rattle.chain.proofs.header.count_code.Tie as tie
@@ -20,7 +20,7 @@ returns-2 c =
     let b = c .before in
     let s = numbers (b .before) in
     refuses (blockSizeRules (s .«block_size») (s .«hashsum_length»))
-    (rule 11 (leb (dataLength (s .«block_size») (s .«hashsum_length»)) (s .padding)) ∷ [])
+    (rule 11 (leb (blockDataLength (s .«block_size») (s .«hashsum_length»)) (s .padding)) ∷ [])
     (b .block-size-code .result) tt (b .block-size-code .ensures) (c .if2 .taken)
     ∙ simp (ne-eqb _ _ (b .before .if1 .left))
 
