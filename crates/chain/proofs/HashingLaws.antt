@@ -34,7 +34,7 @@ sumLength-append [] ys = omega arith
 sumLength-append (x ∷ xs) ys = omega (arith, sumLength-append xs ys)
 
 -- the first digests are no longer than all
-pub first-shorter : (ids : List ℕ) (i : ℕ) → sumLength (take i ids) ≤ sumLength ids
+first-shorter : (ids : List ℕ) (i : ℕ) → sumLength (take i ids) ≤ sumLength ids
 first-shorter ids i =
     omega (arith, sumLength-append (take i ids) (drop i ids), ap sumLength (take-append-drop i ids))
 
@@ -78,7 +78,7 @@ pub record Digested (id : ℕ) (m out : List ℕ) (n : ℕ) : Type 0 where
   pub counted : n ≡ digestLength id
 
 module _ {id n : ℕ} {m out : List ℕ} (e : Digested id m out n) where
-  pub digest-taken : take n out ≡ digest id m
+  digest-taken : take n out ≡ digest id m
   digest-taken =
       ap₂ (λ (k : ℕ) (t : List ℕ). take k t) (e .counted) (e .bytes)
       ∙ take-at (digest id m) (replicate (64 - length (digest id m)) 0) (digestLength id) (length-digest id m)

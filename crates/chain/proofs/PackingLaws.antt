@@ -48,7 +48,7 @@ counted file room pos below some small =
     }
 
 -- a file is not longer than its image
-pub file-below : (p : Order) → sumLength (p .ids) < p .blockSize → 0 < length (p .file) → length (p .file) ≤ imageLength (packedHeader p)
+file-below : (p : Order) → sumLength (p .ids) < p .blockSize → 0 < length (p .file) → length (p .file) ≤ imageLength (packedHeader p)
 file-below p above some =
     let f = fewest (length (p .file)) (room p) (omega arith) some in
     let r : room p ≤ p .blockSize = omega arith in
@@ -145,7 +145,7 @@ module _ (p : Order) (h : Fields) (e : headerWith h (packedHeader (orderOf (p .f
   pub order-is : orderOf (p .file) h ≡ p
   order-is = λ i. record { file = p .file; ids = e i .stream .ids; blockSize = e i .stream .blockSize; signature = e i .signature }
 
-  pub length-is : imageLength (headerWith h []) ≡ imageLength (packedHeader p)
+  length-is : imageLength (headerWith h []) ≡ imageLength (packedHeader p)
   length-is = ap (λ (d : Header). d .headerSize + d .signature + d .stream .count * d .stream .blockSize) e
 
   pub plans : (n : ℕ) → length (p .ids) ≡ 4 → firstBroken (packRules p n) ≡ 0 → Planned (p .file) h n
@@ -341,7 +341,7 @@ module _ (file : List ℕ) (h : Fields) (n : ℕ) (pl : Plan file h n) where
 
   -- ---- the hash field before block k
 
-  pub link-stands : (k : ℕ) (s : List ℕ) → k ≤ h .stream .count → Written file h k s
+  link-stands : (k : ℕ) (s : List ℕ) → k ≤ h .stream .count → Written file h k s
       → linkBefore h k s ≡ link (orderOf file h) (h .stream .count - k) k
   link-stands k s l w = go (h .stream .count - k) refl
     where

@@ -19,7 +19,7 @@ use Rattle.chain.proofs.PackLaws.{Packable, padding-small, padding-fill
 -- ---- bytes put at an offset
 
 -- they stand before all that was behind them
-pub drop-put : (s : List ℕ) (at : ℕ) (v : List ℕ) → at + length v ≤ length s → drop at (put s at v) ≡ v ++ drop (at + length v) s
+drop-put : (s : List ℕ) (at : ℕ) (v : List ℕ) → at + length v ≤ length s → drop at (put s at v) ≡ v ++ drop (at + length v) s
 drop-put s at v h =
     ap (λ (t : List ℕ). drop at t) (append-assoc (take at s) v (drop (at + length v) s))
     ∙ drop-at (take at s) (v ++ drop (at + length v) s) at (length-take-le at s (omega arith))
