@@ -1,7 +1,7 @@
 -- Laws of rules in an order, where the first that is broken gives its number.
 use mathlib.Core.Bool.{Bool, true, false, _&&_, _||_, cond}
 use mathlib.Core.List.{List, [], _∷_, _++_, List·Memᴰ, List·Memᴰ·head, List·Memᴰ·tail}
-use mathlib.Core.Logic.{_⊎_, inl, inr, _↔_}
+use mathlib.Core.Logic.{_⊎_, inl, inr}
 use mathlib.Core.Path.{_≡_, refl, sym, ap, subst, _∙_}
 use Prim.Native.Nat.{ℕ}
 use lib.Dec.{T, eqb}
@@ -79,10 +79,6 @@ zero-all-hold (r ∷ rs) n e = step (r .broken) refl e
         → (r .broken ≡ false) × AllHold rs
     step true q z below = absurd (eqb-false (r .code) 0 (numbered-parts (eqb (r .code) 0) (numbered rs) n .0) z)
     step false q z below = (q, below z)
-
--- 0 is the answer exactly if no rule is broken
-pub zero-exactly : (rs : List Rule) → T (numbered rs) → (firstBroken rs ≡ 0) ↔ AllHold rs
-zero-exactly rs n = (zero-all-hold rs n, all-hold-zero rs)
 
 -- the numbers of the rules
 abbrev pub codes : List Rule → List ℕ

@@ -135,10 +135,6 @@ module _ (low : ℕ) (rs : List Region) (o : Ordered low rs) where
       go (inl h) = h
       go (inr h) = absurd (uncovered-not low rs a o (f u (uncovered-above rs a) h))
 
-  -- a part of a range that is RAM
-  pub ram-part : (a n b m : ℕ) → ram rs a n ≡ true → a ≤ b → b + m ≤ a + n → ram rs b m ≡ true
-  ram-part a n b m h l e = covered-ram b m (λ x p q. ram-covered rs a n x h (omega arith) (omega arith))
-
 -- ---- an address's byte of the lent memory
 
 pub offset-none : (low : ℕ) (rs : List Region) (x : ℕ) → Ordered low rs → x ≤ low → offset rs x ≡ 0

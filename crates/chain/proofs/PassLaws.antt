@@ -16,7 +16,7 @@ use Rattle.chain.specs.Blocks.{blockOf, expected, hashField}
 use Rattle.chain.specs.Contracts.{Passes, HasBlock}
 use Rattle.chain.specs.Header.{Header, headerOf, firstBlock, imageRules, streamRules}
 use Rattle.chain.specs.Open.{fieldStart, signatureField}
-use Rattle.chain.proofs.HeaderLaws.{Passed, passed, stream-passed, blockData, block-ends, whole-block}
+use Rattle.chain.proofs.HeaderLaws.{Passed, passed, stream-passed, block-ends, whole-block}
 use Rattle.chain.proofs.SignatureLaws.{empty-field, whole-field}
 
 -- the signature length that was asked for is the header's own
@@ -37,13 +37,6 @@ module _ (image approved : List ℕ) (k : ℕ) (has : HasBlock image approved k)
 
   pub length-block : length (blockOf image d k) ≡ d .stream .blockSize
   length-block = whole-block image approved (d .signature) fits k (has .1)
-
-  -- hash field and padding lie in a block
-  pub data-within : d .stream .hashsumLength + d .stream .padding < d .stream .blockSize
-  data-within =
-      let a : d .stream .hashsumLength < d .stream .blockSize = fits .sound .above in
-      let b : d .stream .padding < blockData (d .stream) = fits .sound .padded in
-      omega arith
 
 -- all from an offset on
 pub drop-is : (s : List ℕ) (at : ℕ) → at ≤ length s → take (length s - at) (drop at s) ≡ drop at s

@@ -19,7 +19,7 @@ use Rattle.answers.proofs.OutcomeLaws.{given, unwritten, answered-given, answer
 use Rattle.chain.specs.Blocks.{blockOf, blockRules, blockCode, expected, paddingOf, fileBytes, fileUpTo}
 use Rattle.chain.specs.Blocks.{proved, provedBlocks, blocksStop, badBlock}
 use Rattle.chain.specs.Code.{streamOf}
-use Rattle.chain.specs.Contracts.{HasBlock, Sized, blockAt, Numbered, provedOf, Copyable, Answered}
+use Rattle.chain.specs.Contracts.{Sized, blockAt, Numbered, provedOf, Copyable, Answered}
 use Rattle.chain.specs.Header.{Header, Stream, headerOf, fileLength}
 use Rattle.chain.specs.Open.{openRules, openAnswer, provedFile, opened}
 use Rattle.chain.specs.declared.blocks.ProvedBlocks.{ProvedBlocks}
@@ -67,9 +67,6 @@ module _ {image approved : List ℕ} {first : ℕ} {s : Numbers} (n : Numbered i
 
   pub count-is : s .count ≡ d .stream .count
   count-is = ap (λ (t : Stream). t .count) (n .stream)
-
-  pub has-block : (k : ℕ) → k < s .count → HasBlock image approved k
-  has-block k h = (n .passes, subst (λ (i : ℕ). k < i) count-is h)
 
   -- the blocks at the offset are the image's
   pub blocks-are : blockAt image first (s .«block_size») ≡ blockOf image d

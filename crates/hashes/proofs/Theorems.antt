@@ -1,7 +1,7 @@
 -- What a reader of the hashes looks for, and what the layers above them use.
 use mathlib.Core.Path.{_≡_, refl, sym, ap, _∙_, subst}
 use mathlib.Core.List.{List, [], _∷_, _++_, append-assoc, append-nil, flatten}
-use Prim.Native.Nat.{ℕ, zero, _+_, _-_, _*_, _/_, _%_, _^_, _≤_, _<_}
+use Prim.Native.Nat.{ℕ, _+_, _-_, _*_, _/_, _%_, _^_, _≤_, _<_}
 use native.Mathlib.Nat.{add-mod-mod, add-mod-right, div-add-mod', mod-le, mod-lt, mod-self, mul-mod-left, sub-zero}
 use native.Mathlib.Omega.{arith}
 use lib.Arith.{digits-mod}

@@ -1,5 +1,5 @@
 -- Laws of the numbers that bytes spell.
-use mathlib.Core.Path.{_≡_, refl, sym, ap, ap₂, _∙_, subst}
+use mathlib.Core.Path.{_≡_, refl, sym, ap, ap₂, _∙_}
 use mathlib.Core.List.{List, [], _∷_, _++_, reverse, reverseAux, reverse-append, reverse-reverse}
 use Prim.Native.Nat.{ℕ, zero, suc, _+_, _*_, _/_, _%_, _^_, _≤_, _<_}
 use native.Mathlib.Nat.{mul-comm, mul-assoc, pow-suc, zero-add, suc-add, mod-lt, mod-one, mod-eq-of-lt, div-one}
@@ -104,9 +104,6 @@ big-bigBytes n x = ap little (reverse-reverse (littleBytes n x)) ∙ little-litt
 pub little-littleBytes-lt : (n x : ℕ) → x < 256 ^ n → little (littleBytes n x) ≡ x
 little-littleBytes-lt n x h = little-littleBytes n x ∙ mod-eq-of-lt h
 
-pub big-bigBytes-lt : (n x : ℕ) → x < 256 ^ n → big (bigBytes n x) ≡ x
-big-bigBytes-lt n x h = big-bigBytes n x ∙ mod-eq-of-lt h
-
 pub littleBytes-little : (s : List ℕ) → Octets s → littleBytes (length s) (little s) ≡ s
 unfolding little littleBytes
 littleBytes-little [] h = refl
@@ -127,9 +124,6 @@ little-lt [] h = omega arith
 little-lt (x ∷ s) h =
     let d : little s * 256 + x < 256 ^ length s * 256 = digits-lt (little-lt s (λ i. h (suc i))) (h zero) in
     rw pow-suc (omega arith)
-
-pub big-lt : (s : List ℕ) → Octets s → big s < 256 ^ length s
-big-lt s h = subst (λ (n : ℕ). big s < 256 ^ n) (length-reverse s) (little-lt (reverse s) (octets-reverse s h))
 
 -- ---- writing: two halves, side by side, are the bytes of the whole
 

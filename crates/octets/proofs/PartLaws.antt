@@ -130,11 +130,6 @@ pub octets-append : (a b : List ℕ) → Octets a → Octets b → Octets (a ++ 
 octets-append [] b h k = k
 octets-append (x ∷ a) b h k = octets-cons x (a ++ b) (h zero) (octets-append a b (λ j. h (suc j)) k)
 
-pub octets-put : (s : List ℕ) (at : ℕ) (v : List ℕ) → Octets s → Octets v → Octets (put s at v)
-octets-put s at v h k =
-    octets-append (take at s ++ v) (drop (at + length v) s) (octets-append (take at s) v (octets-take at s h) k)
-    (octets-drop (at + length v) s h)
-
 pub octets-replicate : (n x : ℕ) → x < 256 → Octets (replicate n x)
 octets-replicate zero x h i = omega arith
 octets-replicate (suc n) x h i = octets-cons x (replicate n x) h (octets-replicate n x h) i
