@@ -193,7 +193,7 @@ pub record SameBut (at n : ℕ) (s t : List ℕ) : Type 0 where
 abbrev pub ButSignature : ℕ → ℕ → List ℕ → List ℕ → Type 0
 ButSignature header signature image image′ = SameBut header signature image image′
 
--- two images of one length that begin alike, and where 1 to 12 are passed are alike from the first block on
+-- two images of one length that begin alike, and where 1 and 4 to 12 are passed are alike from the first block on
 pub record Alike (approved : List ℕ) (signature : ℕ) (image image′ : List ℕ) : Type 0 where
   pub size : length image ≡ length image′
   pub front : take (length approved) image ≡ take (length approved) image′

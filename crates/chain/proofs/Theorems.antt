@@ -73,7 +73,7 @@ pub open-but-own-signature : (image image′ approved : List ℕ) (signature : �
 open-but-own-signature image image′ approved signature output old b h =
     opened-same image image′ approved signature output old (own-signature-alike image image′ approved signature b h)
 
--- They need only be of one length and have the same first bytes, as many as are approved; and where 1 to 12 are passed the same
+-- They need only be of one length and have the same first bytes, as many as are approved; and where 1 and 4 to 12 are passed the same
 -- behind the field.
 pub open-but-signature : (image image′ approved : List ℕ) (signature : ℕ) (output old : List ℕ)
     → Alike approved signature image image′

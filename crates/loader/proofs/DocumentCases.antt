@@ -1,4 +1,4 @@
--- FORMAT's worked cases E1 to E14, as one table.
+-- FORMAT's worked cases E1 to E13, and of E14 the code, as one table.
 use mathlib.Core.Path.{_≡_, refl}
 use mathlib.Core.List.{List, [], _∷_, _++_, map}
 use Prim.Native.Nat.{ℕ, _-_, _^_}

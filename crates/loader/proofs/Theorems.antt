@@ -355,7 +355,7 @@ module _ (approved map table : List ℕ) (mode signature : ℕ) where
   load-but-own-signature image image′ memory old b h =
       loaded-same map table mode signature image approved image′ memory old (own-signature-alike image image′ approved signature b h)
 
-  -- They need only be of one length and have the same first bytes, as many as are approved; and where 1 to 12 are passed the same
+  -- They need only be of one length and have the same first bytes, as many as are approved; and where 1 and 4 to 12 are passed the same
   -- behind the field.
   pub load-but-signature : (image image′ memory old : List ℕ) → Alike approved signature image image′
       → loaded (by image) memory old ≡ loaded (by image′) memory old
