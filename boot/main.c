@@ -3,7 +3,6 @@
 #include "boot.h"
 #include "codes.h"
 #include "depth.h"
-#include "fields.h"
 #include "handed.h"
 #include "layout.h"
 #include "report.h"
@@ -75,8 +74,9 @@ static struct slice map(void)
 static struct runnelpin_answer load(struct slice header)
 {
     /* The signature length is the one that the chip approved with the rest of the header. */
-    struct unit unit = { map(), boot_cpuid(&table), MODE, stated_signature_length(header.at, header.length),
-                         open_window(&regions), regions.length };
+    struct unit unit = { map(), boot_cpuid(&table), MODE,
+                         runnelpin_stated_signature_length(header.at, header.length), open_window(&regions),
+                         regions.length };
     uint8_t *pointer = stack_pointer();
     struct runnelpin_answer answer;
 

@@ -22,8 +22,3 @@ uint64_t field(const uint8_t *header, enum field which)
 {
     return little(header + field_places[which].at, field_places[which].width);
 }
-
-uint64_t stated_signature_length(const uint8_t *header, size_t length)
-{
-    return length < LEAST_HEADER ? 1 : field(header, FIELD_SIGNATURE_LENGTH);
-}

@@ -35,7 +35,4 @@ extern const struct field_place field_places[FIELDS];
 /* The number in a field of a header that has all of them. */
 uint64_t field(const uint8_t *header, enum field which);
 
-/* The signature length that a header states; for one that is too short, and is refused with any, 1. */
-uint64_t stated_signature_length(const uint8_t *header, size_t length);
-
 #endif

@@ -5,6 +5,8 @@
 #include <stddef.h>
 #include <stdint.h>
 
+#define RUNNELPIN_VERSION "1.0.0"
+
 #ifdef __cplusplus
 extern "C" {
 #endif
@@ -97,6 +99,14 @@ uint64_t runnelpin_open(const uint8_t *image, size_t image_length, const uint8_t
                         uint64_t signature_length, uint8_t *output, size_t output_length, uint8_t *answer,
                         size_t answer_length);
 
+/* The hashes that an image may be packed with, by their IDs in a header. */
+enum {
+    RUNNELPIN_NO_HASH = 0,
+    RUNNELPIN_SHA2_256 = 2,
+    RUNNELPIN_SHA2_384 = 3,
+    RUNNELPIN_SHA2_512 = 4
+};
+
 /* Writes the image of a file, its signature field zero; output is exactly as long as the image. */
 uint64_t runnelpin_pack(const uint8_t *file, size_t file_length, uint64_t id1, uint64_t id2, uint64_t id3,
                         uint64_t id4, uint64_t block_size, uint64_t signature_length, uint8_t *output,
@@ -110,6 +120,66 @@ struct runnelpin_field {
 
 struct runnelpin_field runnelpin_signature(const uint8_t *image, size_t image_length, const uint8_t *header,
                                            size_t header_length, uint64_t signature_length);
+
+/*
+ * The lengths that an output must have. These functions are not part of the library and not proved; a wrong
+ * length is refused with RUNNELPIN_OUTPUT_LENGTH.
+ */
+
+/* A hash's digest; 0 for RUNNELPIN_NO_HASH and for an ID that is not known. */
+static inline uint64_t runnelpin_digest_length(uint64_t id)
+{
+    switch (id) {
+    case RUNNELPIN_SHA2_256:
+        return 32;
+    case RUNNELPIN_SHA2_384:
+        return 48;
+    case RUNNELPIN_SHA2_512:
+        return 64;
+    default:
+        return 0;
+    }
+}
+
+/* The image of a file that runnelpin_pack takes, all numbers being as it takes them. */
+static inline uint64_t runnelpin_image_length(uint64_t file_length, uint64_t id1, uint64_t id2, uint64_t id3,
+                                              uint64_t id4, uint64_t block_size, uint64_t signature_length)
+{
+    uint64_t hashsum = runnelpin_digest_length(id1) + runnelpin_digest_length(id2) + runnelpin_digest_length(id3) +
+                       runnelpin_digest_length(id4);
+    uint64_t data = block_size > hashsum ? block_size - hashsum : 1;
+    uint64_t blocks = file_length / data + (file_length % data != 0);
+    return 36 + hashsum + signature_length + blocks * block_size;
+}
+
+/* A number of a header: `width` bytes from `at` on, little-endian. */
+static inline uint64_t runnelpin_header_number(const uint8_t *header, size_t at, size_t width)
+{
+    uint64_t value = 0;
+    while (width > 0)
+        value = value << 8 | header[at + --width];
+    return value;
+}
+
+/* The file in an image with this header, where runnelpin_open takes it; 0 for one under 36 bytes. */
+static inline uint64_t runnelpin_file_length(const uint8_t *header, size_t header_length)
+{
+    if (header_length < 36)
+        return 0;
+    return runnelpin_header_number(header, 4, 4) *
+               (runnelpin_header_number(header, 8, 4) - runnelpin_header_number(header, 18, 2)) -
+           runnelpin_header_number(header, 32, 4);
+}
+
+/*
+ * The signature length that an approved header states, to be expected by a unit whose chip has no one length of
+ * its own. A header that states none from 1 to 4096 is refused with any; for it this is 1.
+ */
+static inline uint64_t runnelpin_stated_signature_length(const uint8_t *header, size_t header_length)
+{
+    uint64_t stated = header_length < 36 ? 1 : runnelpin_header_number(header, 12, 4);
+    return stated < 1 || stated > 4096 ? 1 : stated;
+}
 
 #ifdef __cplusplus
 }

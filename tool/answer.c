@@ -112,7 +112,7 @@ static void say_command_reached(struct text *text, const struct stream *file)
 
 static void say_block(struct text *text, const struct call *c)
 {
-    struct stream file = stream_of_image(c->image);
+    struct stream file = stream_of_image(c->image.at);
     uint64_t block = c->answer.place;
     file.known = bytes_before_block(&file, block);
     say(text, "; block %" PRIu64 " of %" PRIu64 ", from image byte %" PRIu64, block,
@@ -123,7 +123,7 @@ static void say_block(struct text *text, const struct call *c)
 
 static void say_file(struct text *text, const struct call *c)
 {
-    struct stream file = c->is_image ? stream_of_image(c->image) : stream_of_file(c->image);
+    struct stream file = c->is_image ? stream_of_image(c->image.at) : stream_of_file(c->image.at, c->image.length);
     uint8_t first[8];
     size_t length = file.length < sizeof first ? file.length : sizeof first;
     copy_from(&file, 0, first, length);
@@ -149,7 +149,7 @@ static int is_of_header(uint64_t code)
 
 static void say_refused_command(struct text *text, const struct call *c)
 {
-    struct stream file = c->is_image ? stream_of_image(c->image) : stream_of_file(c->image);
+    struct stream file = c->is_image ? stream_of_image(c->image.at) : stream_of_file(c->image.at, c->image.length);
     uint64_t place = c->answer.place;
     say(text, "; file offset %" PRIu64 ": ", place);
     if (file.length - place < COMMAND_HEADER) {

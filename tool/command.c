@@ -1,34 +1,13 @@
 #include "command.h"
 
+#include "image.h"
+#include "little.h"
 #include "runnelpin.h"
 
 #include <inttypes.h>
 #include <string.h>
 
 #define REACH_LIMIT ((uint64_t)1 << 52)
-
-/* A kind of command: the data lengths it may have, and how many of those bytes are parameters. */
-struct kind {
-    const char *name;
-    uint64_t first_id, last_id, least, most;
-    size_t parameters;
-};
-
-static const struct kind kinds[] = {
-    {"write", COMMAND_WRITE, COMMAND_WRITE, 8, UINT64_MAX, 8},
-    {"fill", COMMAND_FILL, COMMAND_FILL, 24, 24, 24},
-    {"entry", COMMAND_ENTRY, COMMAND_ENTRY, 8, 8, 8},
-    {"CPUID check", COMMAND_CHECK, COMMAND_CHECK, MOST_PARAMETERS, MOST_PARAMETERS, MOST_PARAMETERS},
-    {"vendor command", 60000, 65535, 0, UINT64_MAX, 0},
-};
-
-static const struct kind *kind_of(uint64_t id)
-{
-    for (size_t i = 0; i < sizeof kinds / sizeof *kinds; i++)
-        if (kinds[i].first_id <= id && id <= kinds[i].last_id)
-            return &kinds[i];
-    return NULL;
-}
 
 /* The refusal that a command's parameters bring with any map and any table. */
 static uint64_t judge_parameters(const struct command *c)

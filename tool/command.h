@@ -2,10 +2,9 @@
 #ifndef COMMAND_H
 #define COMMAND_H
 
-#include "image.h"
+#include "kinds.h"
+#include "stream.h"
 #include "text.h"
-
-enum { COMMAND_WRITE, COMMAND_FILL, COMMAND_ENTRY, COMMAND_CHECK, COMMAND_HEADER = 16, MOST_PARAMETERS = 88 };
 
 struct command {
     uint64_t offset;  /* of its first byte in the file */

@@ -24,7 +24,10 @@ void say_field_name(struct text *text, enum field which)
         say(text, "%c", *at == '_' ? ' ' : *at);
 }
 
-static const struct hash hashes[] = {{"none", 0, 0}, {"sha256", 2, 32}, {"sha384", 3, 48}, {"sha512", 4, 64}};
+static const struct hash hashes[] = {{"none", RUNNELPIN_NO_HASH},
+                                     {"sha256", RUNNELPIN_SHA2_256},
+                                     {"sha384", RUNNELPIN_SHA2_384},
+                                     {"sha512", RUNNELPIN_SHA2_512}};
 
 enum { KNOWN_HASHES = sizeof hashes / sizeof *hashes };
 
@@ -76,42 +79,4 @@ uint64_t judge_image(struct bytes image, struct bytes header, uint64_t signature
     struct bytes none = {NULL, 0};
     uint64_t code = open_image(image, header, signature_length, none).code;
     return code == RUNNELPIN_OUTPUT_LENGTH ? RUNNELPIN_DONE : code;
-}
-
-struct stream stream_of_file(struct bytes file)
-{
-    struct stream s = {file.at, file.length, file.length, UINT64_MAX, 0, 0};
-    return s;
-}
-
-struct stream stream_of_image(struct bytes image)
-{
-    struct stream s = {
-        .at = image.at + field(image.at, FIELD_HEADER_SIZE) + field(image.at, FIELD_SIGNATURE_LENGTH),
-        .block_size = field(image.at, FIELD_BLOCK_SIZE),
-        .hash_length = field(image.at, FIELD_HASHSUM_LENGTH),
-        .padding = field(image.at, FIELD_PADDING),
-    };
-    s.length = field(image.at, FIELD_BLOCK_COUNT) * (s.block_size - s.hash_length) - s.padding;
-    s.known = s.length;
-    return s;
-}
-
-uint64_t bytes_before_block(const struct stream *file, uint64_t block)
-{
-    return block == 1 ? 0 : (block - 1) * (file->block_size - file->hash_length) - file->padding;
-}
-
-uint64_t block_of_byte(const struct stream *file, uint64_t offset)
-{
-    return (file->padding + offset) / (file->block_size - file->hash_length) + 1;
-}
-
-void copy_from(const struct stream *file, uint64_t offset, uint8_t *to, size_t length)
-{
-    uint64_t data = file->block_size - file->hash_length;
-    for (size_t i = 0; i < length; i++, offset++) {
-        uint64_t within = (file->padding + offset) % data;
-        to[i] = file->at[(block_of_byte(file, offset) - 1) * file->block_size + file->hash_length + within];
-    }
 }

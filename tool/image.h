@@ -4,6 +4,7 @@
 
 #include "fields.h"
 #include "runnelpin.h"
+#include "stream.h"
 #include "text.h"
 
 #define IMAGE_MAGIC 0xe6019598u
@@ -19,10 +20,10 @@ void say_field_name(struct text *text, enum field which);
 /* The hashes by name, for people. */
 #define HASH_NAMES "sha256, sha384, sha512 and none"
 
-/* A hash that the library has: its name, its ID and the length of its digest. */
+/* A hash that the library has: its name and its ID. */
 struct hash {
     const char *name;
-    uint64_t id, length;
+    uint64_t id;
 };
 
 const struct hash *hash_named(const char *name, size_t length);
@@ -40,26 +41,5 @@ struct runnelpin_answer open_image(struct bytes image, struct bytes header, uint
 
 /* The code that opening gives before it looks at a block, or 0. */
 uint64_t judge_image(struct bytes image, struct bytes header, uint64_t signature_length);
-
-/* The bytes of a file: as they lie, or in the blocks of an image. */
-struct stream {
-    const uint8_t *at;
-    uint64_t length;                           /* of the file */
-    uint64_t known;                            /* how many bytes count: those of proved blocks */
-    uint64_t block_size, hash_length, padding; /* of the blocks that hold the file */
-};
-
-struct stream stream_of_file(struct bytes file);
-
-/* The file in an image whose header is sound. */
-struct stream stream_of_image(struct bytes image);
-
-/* How many bytes of the file stand before a block, counted from 1. */
-uint64_t bytes_before_block(const struct stream *file, uint64_t block);
-
-/* The block that holds a byte of the file, counted from 1. */
-uint64_t block_of_byte(const struct stream *file, uint64_t offset);
-
-void copy_from(const struct stream *file, uint64_t offset, uint8_t *to, size_t length);
 
 #endif

@@ -10,6 +10,7 @@ int job_header(const struct request *request);
 int job_signature(const struct request *request);
 int job_load(const struct request *request);
 int job_run(const struct request *request);
+int job_copy(const struct request *request);
 int job_show(const struct request *request);
 
 #endif

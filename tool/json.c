@@ -1,7 +1,8 @@
 #include "json.h"
 
+#include "print.h"
+
 #include <inttypes.h>
-#include <stdio.h>
 
 static int depth, is_first = 1;
 
@@ -13,44 +14,44 @@ int json_depth(void)
 static void begin_item(const char *key)
 {
     if (!is_first)
-        putchar(',');
+        fputc(',', answers());
     is_first = 0;
     if (key)
-        printf("\"%s\":", key);
+        fprintf(answers(), "\"%s\":", key);
 }
 
 void json_open(const char *key, char bracket)
 {
     begin_item(key);
-    putchar(bracket);
+    fputc(bracket, answers());
     is_first = 1;
     depth++;
 }
 
 void json_close(char bracket)
 {
-    putchar(bracket);
+    fputc(bracket, answers());
     is_first = 0;
     if (!--depth)
-        putchar('\n');
+        fputc('\n', answers());
 }
 
 void json_number(const char *key, uint64_t value)
 {
     begin_item(key);
-    printf(value > (uint64_t)1 << 53 ? "\"%" PRIu64 "\"" : "%" PRIu64, value);
+    fprintf(answers(), value > (uint64_t)1 << 53 ? "\"%" PRIu64 "\"" : "%" PRIu64, value);
 }
 
 void json_text(const char *key, const struct text *text)
 {
     begin_item(key);
-    putchar('"');
+    fputc('"', answers());
     for (size_t i = 0; i < text->length; i++) {
         unsigned char byte = (unsigned char)text->at[i];
         if (byte < ' ' || byte > '~' || byte == '"' || byte == '\\')
-            printf("\\u%04x", byte);
+            fprintf(answers(), "\\u%04x", byte);
         else
-            putchar(byte);
+            fputc(byte, answers());
     }
-    putchar('"');
+    fputc('"', answers());
 }

@@ -1,4 +1,4 @@
-/* JSON on standard output. */
+/* The answer in JSON. */
 #ifndef JSON_H
 #define JSON_H
 

@@ -1,9 +1,9 @@
 #include "listing.h"
 
 #include "json.h"
+#include "print.h"
 
 #include <inttypes.h>
-#include <stdio.h>
 
 static int is_json;
 
@@ -24,7 +24,7 @@ void open_part(const char *name, char bracket)
     if (is_json)
         json_open(name, bracket);
     else
-        printf("%s:\n", name);
+        fprintf(answers(), "%s:\n", name);
 }
 
 void close_part(char bracket)
@@ -38,7 +38,7 @@ void list_number(const char *name, uint64_t value)
     if (is_json)
         json_number(name, value);
     else
-        printf("  %-16s  %" PRIu64 "\n", name, value);
+        fprintf(answers(), "  %-16s  %" PRIu64 "\n", name, value);
 }
 
 void list_text(const char *name, const struct text *value)
@@ -46,5 +46,5 @@ void list_text(const char *name, const struct text *value)
     if (is_json)
         json_text(name, value);
     else
-        printf("  %-16s  %s\n", name, value->at);
+        fprintf(answers(), "  %-16s  %s\n", name, value->at);
 }

@@ -1,4 +1,4 @@
-/* Named values on standard output, as text or in JSON. */
+/* Named values of the answer, as text or in JSON. */
 #ifndef LISTING_H
 #define LISTING_H
 

@@ -16,6 +16,7 @@ static const struct job jobs[] = {
     {"signature", "IMAGE", TAKES(OUTPUT) | TAKES(HEADER), TAKES(SIGNATURE) | TAKES(JSON), job_signature},
     {"load", "IMAGE", TAKES(HEADER) | TAKES(MAP), TAKES(SIGNATURE) | RUNNING, job_load},
     {"run", "FILE", TAKES(MAP), RUNNING, job_run},
+    {"copy", "FILE", TAKES(OUTPUT), TAKES(JSON), job_copy},
     {"show", "IMAGE|FILE", 0, TAKES(JSON), job_show},
 };
 

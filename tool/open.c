@@ -10,7 +10,7 @@ int job_open(const struct request *request)
     take_image(&r);
     c->answer.code = judge_image(c->image, c->header, c->signature_length);
     if (!c->answer.code) {
-        file = zeros(stream_of_image(c->image).length);
+        file = zeros(stream_of_image(c->image.at).length);
         c->answer = open_image(c->image, c->header, c->signature_length, file);
         file.length = c->answer.stored;
     }

@@ -34,16 +34,6 @@ static uint64_t pack_into(const struct packing *p, struct bytes image)
                           p->signature_length, image.at, image.length);
 }
 
-/* The length of the image, where nothing else is wrong. */
-static uint64_t packed_length(const struct packing *p)
-{
-    uint64_t sum = 0;
-    for (int i = 0; i < HASHES; i++)
-        sum += hash_of_id(p->ids[i])->length;
-    uint64_t data = p->block_size - sum, blocks = (p->file.length + data - 1) / data;
-    return LEAST_HEADER + sum + p->signature_length + blocks * p->block_size;
-}
-
 int job_pack(const struct request *request)
 {
     struct report r = new_report(request);
@@ -56,7 +46,8 @@ int job_pack(const struct request *request)
     struct bytes image = {NULL, 0};
     uint64_t code = pack_into(&p, image);
     if (code == RUNNELPIN_OUTPUT_LENGTH) {
-        image = zeros(packed_length(&p));
+        image = zeros(runnelpin_image_length(p.file.length, p.ids[0], p.ids[1], p.ids[2], p.ids[3], p.block_size,
+                                             p.signature_length));
         code = pack_into(&p, image);
     }
     r.call.answer.code = code;

@@ -13,7 +13,7 @@ int job_header(const struct request *request)
     c->is_image = 1;
     c->image = read_file(request->operand, LARGEST);
     c->header = own_header(c->image);
-    c->signature_length = stated_signature_length(c->header.at, c->header.length);
+    c->signature_length = runnelpin_stated_signature_length(c->header.at, c->header.length);
     c->answer.code = judge_image(c->image, c->header, c->signature_length);
     give_output(&r, c->header);
     if (!c->answer.code)

@@ -3,10 +3,8 @@
 
 #include "fail.h"
 #include "json.h"
+#include "print.h"
 
-#include <errno.h>
-#include <stdio.h>
-#include <string.h>
 #include <sys/stat.h>
 #include <unistd.h>
 
@@ -41,9 +39,9 @@ static void print_json(const struct report *r)
 
 static void print_text(const struct report *r)
 {
-    puts(r->words.at);
+    fprintf(answers(), "%s\n", r->words.at);
     for (int i = 0; i < r->notes_made; i++)
-        puts(r->notes[i].at);
+        fprintf(answers(), "%s\n", r->notes[i].at);
 }
 
 /* Whether answers and errors go to the same terminal, file or pipe. */
@@ -63,8 +61,7 @@ int finish(struct report *r)
         print_json(r);
     else
         print_text(r);
-    if (fflush(stdout) || ferror(stdout))
-        fail("standard output can't be written: %s", strerror(errno));
+    end_answer();
     if (is_refused && (is_json || !is_one_place()))
         complain("%s: %s", r->request->operand, r->words.at);
     return is_refused ? STATUS_REFUSED : STATUS_DONE;

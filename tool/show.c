@@ -149,7 +149,7 @@ static void show_image(struct report *r)
     c->is_image = 1;
     c->header = own_header(c->image);
     list_header(c->header);
-    c->signature_length = stated_signature_length(c->header.at, c->header.length);
+    c->signature_length = runnelpin_stated_signature_length(c->header.at, c->header.length);
     c->answer.code = judge_image(c->image, c->header, c->signature_length);
     if (!c->answer.code || c->answer.code == RUNNELPIN_IMAGE_LENGTH) {
         struct survey s = survey_blocks(c->image);
@@ -174,7 +174,7 @@ int job_show(const struct request *request)
         list_kind("image", r.call.image);
         show_image(&r);
     } else {
-        struct stream file = stream_of_file(r.call.image);
+        struct stream file = stream_of_file(r.call.image.at, r.call.image.length);
         list_kind("command file", r.call.image);
         list_commands(&r, &file);
         if (r.call.answer.code == RUNNELPIN_FILE_MAGIC)

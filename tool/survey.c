@@ -12,7 +12,7 @@ static uint64_t whole_blocks(struct bytes image)
 /* Opens the image with its own header. */
 static struct runnelpin_answer open_whole(struct bytes image)
 {
-    struct bytes file = zeros(stream_of_image(image).length);
+    struct bytes file = zeros(stream_of_image(image.at).length);
     return open_image(image, own_header(image), field(image.at, FIELD_SIGNATURE_LENGTH), file);
 }
 
@@ -38,7 +38,7 @@ struct survey survey_blocks(struct bytes image)
     if (s.whole)
         s.stop = open_cut(image, s.whole);
     s.proved = s.stop.code ? s.stop.place - 1 : s.whole;
-    s.file = stream_of_image(image);
+    s.file = stream_of_image(image.at);
     s.file.known = bytes_before_block(&s.file, s.proved + 1);
     return s;
 }

@@ -10,9 +10,10 @@ const char not_approved[] = "this header has not been approved";
 
 static void take_signature_length(struct report *r)
 {
-    uint64_t own = stated_signature_length(r->call.header.at, r->call.header.length);
+    uint64_t own = runnelpin_stated_signature_length(r->call.header.at, r->call.header.length);
     r->call.signature_length = option_number(r->request, OPTION_SIGNATURE, own);
-    if (!r->request->value[OPTION_SIGNATURE] && r->call.header.length >= LEAST_HEADER)
+    if (!r->request->value[OPTION_SIGNATURE] && r->call.header.length >= LEAST_HEADER &&
+        field(r->call.header.at, FIELD_SIGNATURE_LENGTH) == own)
         say(note(r), "the expected signature length is taken from the header: %" PRIu64, own);
 }
 

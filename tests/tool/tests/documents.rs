@@ -60,7 +60,7 @@ fn every_subcommand_and_option_is_in_the_man_page() {
         assert!(found, "{line}");
         met += 1;
     }
-    assert_eq!(met, 7 + 11);
+    assert_eq!(met, 8 + 11);
 }
 
 fn hex(bytes: &[u8]) -> String {
