@@ -36,11 +36,11 @@ build/runnelpin-watched: $(TOOL_PARTS)
 stub: tool ## the example boot stub, built and run, and the stack that each call needs
 	@tools/stub && tools/stack
 
-boot: tool ## a machine in an emulator, booted by the proved loader from a signed image
-	@tools/boot
+boot: tool ## a machine in an emulator, booted by the proved loader; DAMAGED=yes: how it refuses a damaged image
+	@DAMAGED='$(DAMAGED)' tools/boot
 
 boot-grub: tool ## the same from an ISO with GRUB
-	@tools/boot grub
+	@DAMAGED='$(DAMAGED)' tools/boot grub
 
 # An older archive is one whose calls have the same parameters, with its libprobe.a beside it.
 bench: archives ## the library's speed against plain Rust, and OpenSSL where it is; OLD=FOLDER/librunnelpin.a: against that

@@ -1,4 +1,5 @@
 /* The stub as a whole: what was handed over, what is lent, the load, and on 0 only the hand-off. */
+#include "answer.h"
 #include "approved.h"
 #include "boot.h"
 #include "codes.h"
@@ -86,7 +87,7 @@ static struct runnelpin_answer load(struct slice header)
     say("stack used by the call: ");
     say_number(stack_used(pointer));
     say(" bytes\n");
-    say_answer(answer);
+    say_answer(answer, handed.image);
     return answer;
 }
 

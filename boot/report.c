@@ -1,6 +1,5 @@
 #include "report.h"
 
-#include "codes.h"
 #include "layout.h"
 #include "serial.h"
 #include "stub.h"
@@ -69,33 +68,5 @@ void say_cpuid(const struct cpuid_table *table)
         say_number(table->sub_leaf);
         say(" on");
     }
-    say("\n");
-}
-
-void say_answer(struct runnelpin_answer answer)
-{
-    static const char *const places[] = {
-        [BLOCK_NUMBER] = "; block ", [FILE_OFFSET] = "; file offset ", [FILE_LENGTH] = "; file length "
-    };
-    const struct code *code = code_of(answer.code);
-
-    say(answer.code == RUNNELPIN_DONE ? "loaded: " : "refused: ");
-    say_number(answer.code);
-    if (code) {
-        say(", ");
-        say(code->name);
-        say(": ");
-        say(code->meaning);
-    }
-    if (code && code->place_kind != NO_PLACE) {
-        say(places[code->place_kind]);
-        say_number(answer.place);
-    }
-    say("; commands done ");
-    say_number(answer.commands);
-    say(", bytes stored ");
-    say_number(answer.stored);
-    say(", entry ");
-    say_address(answer.entry);
     say("\n");
 }

@@ -1,4 +1,4 @@
-/* What the stub says on the serial port. */
+/* What the stub says on the serial port before the load. */
 #ifndef REPORT_H
 #define REPORT_H
 
@@ -8,8 +8,5 @@
 void say_handed(const struct handed *handed, struct slice header);
 void say_memory(const struct regions *regions, struct slice image);
 void say_cpuid(const struct cpuid_table *table);
-
-/* The answer record in words. */
-void say_answer(struct runnelpin_answer answer);
 
 #endif
