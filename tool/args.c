@@ -1,108 +1,148 @@
 #include "args.h"
 
 #include "fail.h"
-#include "image.h"
+#include "help.h"
+#include "near.h"
 #include "numbers.h"
+#include "text.h"
+#include "words.h"
 
-#include <stdio.h>
 #include <stdlib.h>
 #include <string.h>
 
-static const struct {
-    const char *name, *value, *meaning; /* no value: the option stands alone */
-} options[OPTIONS] = {
-    [OPTION_OUTPUT] = {"-o", "FILE", "the file to write the result to"},
-    [OPTION_HEADER] = {"--header", "FILE", "the approved header"},
-    [OPTION_MAP] = {"--map", "FILE", "the memory map: lines of base and length"},
-    [OPTION_CPUID] = {"--cpuid", "FILE",
-                      "the CPUID table: lines of six numbers, or 'host' for this machine's (default: none)"},
-    [OPTION_MODE] = {"--mode", "32|64", "the addressing mode (default: 64)"},
-    [OPTION_MEMORY] = {"--memory", "FILE", "what memory holds at first (default: zeros)"},
-    [OPTION_HASH] = {"--hash", "NAMES", "up to four of " HASH_NAMES ", separated by commas (default: sha512)"},
-    [OPTION_BLOCK] = {"--block", "BYTES", "the block size (default: 65536)"},
-    [OPTION_SIGNATURE] = {"--signature", "BYTES", "the signature length (default: pack 512, else the header's)"},
-    [OPTION_PARTIAL] = {"--partial", NULL, "on a refusal, write what was proved or stored before it"},
-    [OPTION_JSON] = {"--json", NULL, "answer in JSON"},
-};
-
-static void print_usage(FILE *out, const struct job *jobs, size_t count)
+const char *value_name(const struct job *job, enum option option)
 {
-    for (size_t j = 0; j < count; j++) {
-        fprintf(out, "%s runnelpin %s %s", j ? "      " : "usage:", jobs[j].name, jobs[j].operand);
-        for (int o = 0; o < OPTIONS; o++) {
-            int is_needed = jobs[j].needs >> o & 1;
-            if (is_needed || jobs[j].may >> o & 1)
-                fprintf(out, is_needed ? " %s%s%s" : " [%s%s%s]", options[o].name, options[o].value ? " " : "",
-                        options[o].value ? options[o].value : "");
-        }
-        fputc('\n', out);
-    }
+    return option == OPTION_OUTPUT && job && job->result ? job->result : options[option].value;
 }
 
-static void print_help(const struct job *jobs, size_t count)
+static int takes(const struct job *job, int option)
 {
-    print_usage(stdout, jobs, count);
-    putchar('\n');
-    for (int o = 0; o < OPTIONS; o++)
-        printf("  %-11s %-6s %s\n", options[o].name, options[o].value ? options[o].value : "", options[o].meaning);
-    printf("\nExit status: %d done, %d refused, %d bad usage or a file that can't be read or written.\n", STATUS_DONE,
-           STATUS_REFUSED, STATUS_BAD);
+    return (job->needs | job->may | TAKES(HELP) | TAKES(VERSION)) >> option & 1;
 }
 
 static const struct job *job_named(const char *name, const struct job *jobs, size_t count)
 {
-    for (size_t j = 0; j < count; j++)
+    const char *meant = NULL;
+    for (size_t j = 0; j < count; j++) {
         if (!strcmp(jobs[j].name, name))
             return &jobs[j];
-    fail("unknown subcommand: %s (runnelpin --help lists them)", name);
-}
-
-static enum option option_named(const char *name, const struct job *job)
-{
-    for (int o = 0; o < OPTIONS; o++)
-        if (!strcmp(options[o].name, name) && (job->needs | job->may) >> o & 1)
-            return (enum option)o;
-    fail("%s: unknown option: %s (runnelpin --help lists them)", job->name, name);
-}
-
-/* Takes the word, and the one behind it where it belongs to an option; gives the next. */
-static char **read_word(struct request *request, char **words)
-{
-    const char *name = request->job->name;
-    if ((*words)[0] != '-' || !(*words)[1]) {
-        if (request->operand)
-            fail("%s: only one %s can be given: %s is one too many", name, request->job->operand, *words);
-        request->operand = *words;
-        return words + 1;
+        if (!meant && is_near(name, jobs[j].name))
+            meant = jobs[j].name;
     }
-    enum option o = option_named(*words, request->job);
-    if (request->value[o])
-        fail("%s: %s is given twice", name, *words);
-    if (options[o].value && !words[1])
-        fail("%s: %s needs a value: %s", name, *words, options[o].value);
-    request->value[o] = options[o].value ? words[1] : "";
-    return words + (options[o].value ? 2 : 1);
+    if (meant)
+        fail("unknown verb: %s; did you mean %s?", name, meant);
+    fail("unknown verb: %s; 'runnelpin --help' lists them", name);
+}
+
+/* Of an option that no verb has: names one of the verb's, or of any while there is none yet, that may be meant. */
+static void refuse_unknown(const char *text, const struct job *job)
+{
+    struct text name = {NULL, 0};
+    say(&name, "%.*s", (int)strcspn(text, "="), text);
+    for (int o = 0; o < OPTIONS; o++)
+        if ((!job || takes(job, o)) && is_near(name.at, options[o].name))
+            fail("unknown option %s; did you mean %s?", name.at, options[o].name);
+    if (job)
+        fail("unknown option %s; 'runnelpin help %s' lists the options of %s", name.at, job->name, job->name);
+    fail("unknown option %s; see 'runnelpin --help'", name.at);
+}
+
+/* Of an option that only other verbs have: names them. */
+static void refuse_foreign(const struct job *job, int option, const struct job *jobs, size_t count)
+{
+    struct text others = {NULL, 0};
+    for (size_t j = 0; j < count; j++)
+        if (takes(&jobs[j], option))
+            say(&others, "%s%s", others.length ? ", " : "", jobs[j].name);
+    fail("%s does not take %s, which is for: %s", job->name, options[option].name, others.at);
+}
+
+static void take_option(struct request *request, const struct word *word)
+{
+    if (word->option == UNKNOWN_OPTION)
+        refuse_unknown(word->text, request->job);
+    const char *name = options[word->option].name, *needed = value_name(request->job, word->option);
+    if (request->value[word->option])
+        fail("%s is given twice", name);
+    if (!needed && word->value)
+        fail("%s takes no value", name);
+    if (needed && !word->value)
+        fail("%s needs a value: %s", name, needed);
+    if (needed && !*word->value)
+        fail("%s needs a value that is not empty: %s", name, needed);
+    if (!strncmp(word->text, "-o=", 3)) /* nobody means a file called = something */
+        fail("%s: write -o %s", word->text, word->text + 3);
+    request->value[word->option] = needed ? word->value : "";
+}
+
+/* The first word that is no option is the verb, the second one its file. */
+static void take_operand(struct request *request, const char *text, const struct job *jobs, size_t count)
+{
+    if (!request->job) {
+        request->job = job_named(text, jobs, count);
+        return;
+    }
+    if (request->operand)
+        fail("%s: only one %s can be given: %s is one too many", request->job->name, request->job->operand, text);
+    if (!*text)
+        fail("%s: the name of %s is empty", request->job->name, request->job->operand);
+    request->operand = text;
+}
+
+static void check_options(const struct request *request, const struct job *jobs, size_t count)
+{
+    const struct job *job = request->job;
+    for (int o = 0; o < OPTIONS; o++) {
+        if (request->value[o] && !takes(job, o))
+            refuse_foreign(job, o, jobs, count);
+        if (job->needs >> o & 1 && !request->value[o])
+            fail("%s: %s %s is missing", job->name, options[o].name, value_name(job, o));
+    }
+    uint64_t mode = option_number(request, OPTION_MODE, 64);
+    if (mode != 32 && mode != 64)
+        fail("--mode %s: give 32 or 64", request->value[OPTION_MODE]);
+}
+
+/* Ends the tool where it is asked what it can do. */
+static void tell(const struct glance *seen, const struct job *jobs, size_t count)
+{
+    static const char help[] = "help";
+    const char *const *verb = seen->operands;
+    int is_help = verb[0] && !strcmp(verb[0], help);
+    if (is_help && verb[2])
+        fail("help: only one VERB can be given: %s is one too many", verb[2]);
+    if (is_help)
+        verb++;
+    if (!is_help && !seen->has[OPTION_HELP] && !seen->has[OPTION_VERSION])
+        return;
+    if (!is_help && !seen->has[OPTION_HELP])
+        print_version();
+    else if (*verb && strcmp(*verb, help))
+        print_verb_help(job_named(*verb, jobs, count));
+    else
+        print_help(jobs, count);
+    exit(STATUS_DONE);
 }
 
 struct request read_request(char **words, const struct job *jobs, size_t count)
 {
     struct request request = {NULL, NULL, {NULL}};
-    for (char **word = words; *word; word++) {
-        if (!strcmp(*word, "--help")) {
-            print_help(jobs, count);
-            exit(STATUS_DONE);
-        }
+    struct words line = {words, 0};
+    struct glance seen = look_over(words);
+    if (seen.has[OPTION_JSON])
+        fail_in_json(seen.operands[1]);
+    tell(&seen, jobs, count);
+    for (struct word word = next_word(&line); word.text; word = next_word(&line)) {
+        if (word.option == NO_OPTION)
+            take_operand(&request, word.text, jobs, count);
+        else
+            take_option(&request, &word);
     }
-    if (!*words)
-        fail("the subcommand is missing (runnelpin --help lists them)");
-    request.job = job_named(*words++, jobs, count);
-    while (*words)
-        words = read_word(&request, words);
+    if (!request.job)
+        fail("the verb is missing; 'runnelpin --help' lists them");
     if (!request.operand)
         fail("%s: %s is missing", request.job->name, request.job->operand);
-    for (int o = 0; o < OPTIONS; o++)
-        if (request.job->needs >> o & 1 && !request.value[o])
-            fail("%s: %s %s is missing", request.job->name, options[o].name, options[o].value);
+    check_options(&request, jobs, count);
     return request;
 }
 

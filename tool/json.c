@@ -36,6 +36,12 @@ void json_close(char bracket)
         fputc('\n', answers());
 }
 
+void json_null(const char *key)
+{
+    begin_item(key);
+    fputs("null", answers());
+}
+
 void json_number(const char *key, uint64_t value)
 {
     begin_item(key);

@@ -11,6 +11,8 @@ void json_close(char bracket);
 /* How many brackets are open. */
 int json_depth(void);
 
+void json_null(const char *key);
+
 /* A number over 2^53 is written as a string, since readers that use floating point would round it. */
 void json_number(const char *key, uint64_t value);
 
