@@ -103,21 +103,25 @@ static void check_options(const struct request *request, const struct job *jobs,
         fail("--mode %s: give 32 or 64", request->value[OPTION_MODE]);
 }
 
-/* Ends the tool where it is asked what it can do. */
+static int is_help(const char *verb)
+{
+    return verb && !strcmp(verb, "help");
+}
+
+/* Ends the tool where it is asked about itself. */
 static void tell(const struct glance *seen, const struct job *jobs, size_t count)
 {
-    static const char help[] = "help";
     const char *const *verb = seen->operands;
-    int is_help = verb[0] && !strcmp(verb[0], help);
-    if (is_help && verb[2])
-        fail("help: only one VERB can be given: %s is one too many", verb[2]);
-    if (is_help)
-        verb++;
-    if (!is_help && !seen->has[OPTION_HELP] && !seen->has[OPTION_VERSION])
+    int asks_help = seen->has[OPTION_HELP] || is_help(*verb);
+    if (!asks_help && !seen->has[OPTION_VERSION])
         return;
-    if (!is_help && !seen->has[OPTION_HELP])
+    if (is_help(*verb) && verb[2])
+        fail("help: only one VERB can be given: %s is one too many", verb[2]);
+    if (is_help(*verb))
+        verb++;
+    if (!asks_help)
         print_version();
-    else if (*verb && strcmp(*verb, help))
+    else if (*verb && !is_help(*verb))
         print_verb_help(job_named(*verb, jobs, count));
     else
         print_help(jobs, count);
@@ -130,7 +134,7 @@ struct request read_request(char **words, const struct job *jobs, size_t count)
     struct words line = {words, 0};
     struct glance seen = look_over(words);
     if (seen.has[OPTION_JSON])
-        fail_in_json(seen.operands[1]);
+        fail_in_json(is_help(seen.operands[0]) ? NULL : seen.operands[1]);
     tell(&seen, jobs, count);
     for (struct word word = next_word(&line); word.text; word = next_word(&line)) {
         if (word.option == NO_OPTION)

@@ -1,6 +1,7 @@
 //! The tool's subcommands with the types of the library's calls, so that the cases of the second
 //! program can be run on it. What no command line can ask for is left to the second program: an
-//! answer record or an output of another length, records that aren't whole, hashes without a name.
+//! answer record or an output of another length, records that aren't whole, modes other than 32 and
+//! 64, hashes without a name.
 //! So are megabytes.
 
 use crate::desk::{Desk, Said};
@@ -63,10 +64,17 @@ fn board(desk: &Desk, map: &[u8], cpuid: &[u8], mode: u64, memory: &[u8]) -> Str
     format!("--map map --cpuid table --mode {mode} --memory memory --partial --json -o after")
 }
 
-fn can_be_asked(input: &[u8], map: &[u8], cpuid: &[u8], memory: &[u8], answer: &[u8]) -> bool {
+fn can_be_asked(
+    input: &[u8],
+    map: &[u8],
+    cpuid: &[u8],
+    mode: u64,
+    memory: &[u8],
+    answer: &[u8],
+) -> bool {
     let is_whole = |bytes: &[u8], record| bytes.chunks_exact(record).remainder().is_empty();
     let are_whole = is_whole(map, 16) && is_whole(cpuid, 24) && answer.len() == RECORD;
-    are_whole && input.len().max(memory.len()) <= MOST
+    are_whole && [32, 64].contains(&mode) && input.len().max(memory.len()) <= MOST
 }
 
 fn take_output(desk: &Desk, name: &str, output: &mut [u8]) {
@@ -84,7 +92,7 @@ pub fn run(
     memory: &mut [u8],
     answer: &mut [u8],
 ) -> u64 {
-    if !can_be_asked(file, map, cpuid, memory, answer) {
+    if !can_be_asked(file, map, cpuid, mode, memory, answer) {
         return machine::run(file, map, cpuid, mode, memory, answer);
     }
     let desk = Desk::new();
@@ -106,7 +114,7 @@ pub fn load(
     memory: &mut [u8],
     answer: &mut [u8],
 ) -> u64 {
-    if !can_be_asked(image, map, cpuid, memory, answer) {
+    if !can_be_asked(image, map, cpuid, mode, memory, answer) {
         return load::load(
             image,
             header,

@@ -1,4 +1,4 @@
-//! Bad usage and bad input of every kind: one clear line on standard error, the exit status, and
+//! Bad input of every kind: one clear line on standard error, the exit status, and
 //! no output, old or new, touched.
 
 use std::fs;
@@ -25,41 +25,6 @@ fn bad(desk: &Desk, words: &str, status: i32, part: &str) {
     let before = desk.names();
     one_line(&desk.run(words), status, part);
     assert_eq!((desk.names(), desk.get("out")), (before, b"old".to_vec()));
-}
-
-#[test]
-fn usage() {
-    let desk = sample::desk();
-    for (words, part) in [
-        ("", "the subcommand is missing"),
-        ("unpack file", "unknown subcommand: unpack"),
-        ("pack", "pack: FILE is missing"),
-        ("pack file", "pack: -o FILE is missing"),
-        ("pack file -o", "-o needs a value: FILE"),
-        ("pack file file -o out", "file is one too many"),
-        ("pack file -o out -o out", "-o is given twice"),
-        ("pack file -o out --mode 64", "unknown option: --mode"),
-        ("pack file -o out --block=96", "unknown option: --block=96"),
-        ("pack file -o out --hash md5", "--hash md5: "),
-        ("pack file -o out --hash sha256,", "--hash sha256,: "),
-        (
-            "pack file -o out --hash none,none,none,none,none",
-            "up to four",
-        ),
-        ("open image -o out", "open: --header FILE is missing"),
-        ("load image --header header", "load: --map FILE is missing"),
-        ("load image --map map", "load: --header FILE is missing"),
-        ("run file", "run: --map FILE is missing"),
-        ("header image", "header: -o FILE is missing"),
-        (
-            "signature image -o out",
-            "signature: --header FILE is missing",
-        ),
-        ("show", "show: IMAGE|FILE is missing"),
-        ("show -x", "unknown option: -x"),
-    ] {
-        bad(&desk, words, USAGE, part);
-    }
 }
 
 #[test]

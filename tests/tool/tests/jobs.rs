@@ -294,15 +294,3 @@ fn where_both_go_to_one_place_a_refusal_is_said_once() {
         assert_eq!(said.out.matches("refused: 16").count(), times, "{said:?}");
     }
 }
-
-#[test]
-fn help_is_no_error() {
-    let desk = sample::desk();
-    for words in ["--help", "pack --help"] {
-        let said = desk.run(words);
-        assert!(said.status == 0 && said.err.is_empty(), "{said:?}");
-        for name in ["pack", "open", "header", "signature", "load", "run", "show"] {
-            assert!(said.out.contains(&format!("runnelpin {name} ")), "{name}");
-        }
-    }
-}

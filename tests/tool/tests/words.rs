@@ -44,12 +44,6 @@ fn every_code_has_its_words() {
 fn arguments(met: &mut BTreeSet<u64>) {
     let desk = sample::desk();
     let load = "load image --header header --map map";
-    refused(
-        &desk,
-        met,
-        &format!("{load} --mode 33"),
-        &["refused: 1, argument: ", "; the mode is 33"],
-    );
     let part = "; the signature length is 4097";
     refused(
         &desk,
