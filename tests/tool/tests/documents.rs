@@ -1,7 +1,9 @@
 //! The documents have what the tool has.
 
 use second::sha2;
+use std::collections::BTreeSet;
 use std::fs;
+use std::process::Command;
 use tool::desk::{repository, Desk};
 use tool::sample;
 
@@ -40,27 +42,153 @@ fn every_code_is_in_each_table_of_answers() {
     );
 }
 
+/// The first words of a help's lines that begin so, each without a comma.
+fn named(help: &str, start: &str) -> Vec<String> {
+    let lines = help.lines().filter(|line| line.starts_with(start));
+    let name = |line: &str| {
+        let name = line.split_whitespace().find(|word| !word.ends_with(','));
+        name.unwrap().to_string()
+    };
+    lines.map(name).collect()
+}
+
+/// The verbs, and of each its usage and options, as the tool's help has them.
+fn verbs() -> Vec<(String, String, Vec<String>)> {
+    let desk = Desk::new();
+    let verb = |name: String| {
+        let help = desk.run(&format!("help {name}")).out;
+        let (usage, _) = help
+            .strip_prefix("usage: ")
+            .unwrap()
+            .split_once("\n\n")
+            .unwrap();
+        let options = named(&help, "  -");
+        assert!(options.len() > 1, "{help}");
+        (name, spaced(usage), options)
+    };
+    let names = named(&desk.run("--help").out, "  ");
+    assert_eq!(names.len(), 8, "{names:?}");
+    names.into_iter().map(verb).collect()
+}
+
+/// With one space between words.
+fn spaced(text: &str) -> String {
+    text.split_whitespace().collect::<Vec<_>>().join(" ")
+}
+
+/// A section of the man page, without its changes of font.
+fn section(name: &str) -> String {
+    let page = document("docs/runnelpin.1");
+    let (_, text) = page.split_once(&format!("\n.SH {name}\n")).unwrap();
+    let (text, _) = text.split_once("\n.SH ").unwrap();
+    let fonts = ["\\fB", "\\fI", "\\fR"].iter();
+    let text = fonts.fold(text.to_string(), |text, font| text.replace(font, ""));
+    text.replace("\\-", "-")
+}
+
+/// The words behind each .TP of a section.
+fn tags(name: &str) -> BTreeSet<String> {
+    let text = section(name);
+    let lines = text.split(".TP\n").skip(1);
+    let tag = |text: &str| {
+        let line = text.lines().next().unwrap().replace(['"', ','], " ");
+        let mut words = line
+            .split_whitespace()
+            .filter(|word| !word.starts_with('.'));
+        let first = words.next().unwrap().to_string();
+        words
+            .find(|word| word.starts_with("--"))
+            .map_or(first, str::to_string)
+    };
+    lines.map(tag).collect()
+}
+
 #[test]
-fn every_subcommand_and_option_is_in_the_man_page() {
-    let page = document("docs/runnelpin.1").replace('\\', "");
-    let help = Desk::new().run("--help").out;
-    let mut met = 0;
-    for line in help.lines() {
-        let words: Vec<&str> = line.split_whitespace().collect();
-        let found = match words[..] {
-            ["usage:", "runnelpin", name, ..] | ["runnelpin", name, ..] => {
-                page.contains(&format!("fBrunnelpin {name}fR"))
-                    && page.contains(&format!("\n.B {name}\n"))
-            }
-            [name, ..] if name.starts_with('-') => [".B ", ".BI "]
-                .iter()
-                .any(|macro_name| page.contains(&format!("\n{macro_name}{name}"))),
-            _ => continue,
-        };
-        assert!(found, "{line}");
-        met += 1;
+fn the_man_page_has_the_verbs_and_options_of_the_help() {
+    let verbs = verbs();
+    let mut usages: Vec<&str> = verbs.iter().map(|verb| verb.1.as_str()).collect();
+    usages.extend(["runnelpin help [VERB]", "runnelpin --version"]);
+    let synopsis = section("SYNOPSIS");
+    let synopsis = spaced(synopsis.trim_start_matches(".nf").trim_end_matches(".fi"));
+    assert_eq!(synopsis, usages.join(" "));
+    let mut names: BTreeSet<String> = verbs.iter().map(|verb| verb.0.clone()).collect();
+    names.insert("help".into());
+    assert_eq!(tags("VERBS"), names);
+    let mut options: BTreeSet<String> = verbs.into_iter().flat_map(|verb| verb.2).collect();
+    options.insert("--version".into());
+    assert_eq!(tags("OPTIONS"), options);
+}
+
+/// What bash offers for the last of these words.
+fn offered(desk: &Desk, words: &[&str]) -> BTreeSet<String> {
+    let script = repository().join("completion/runnelpin.bash");
+    let line = "source \"$1\"; shift; COMP_WORDS=(\"$@\") COMP_CWORD=$(($# - 1)); _runnelpin; \
+                for each in \"${COMPREPLY[@]}\"; do printf '%s\\n' \"$each\"; done";
+    let mut command = Command::new("bash");
+    command
+        .args(["--norc", "-c", line, "bash"])
+        .arg(script)
+        .arg("runnelpin")
+        .args(words);
+    let said = desk.start(command);
+    assert!(said.status == 0 && said.err.is_empty(), "{said:?}");
+    said.out.lines().map(str::to_string).collect()
+}
+
+fn set(words: &str) -> BTreeSet<String> {
+    words.split_whitespace().map(str::to_string).collect()
+}
+
+#[test]
+fn bash_completes_the_verbs_and_options_of_the_help() {
+    let desk = Desk::new();
+    let mut names = BTreeSet::new();
+    for (verb, _, options) in verbs() {
+        assert_eq!(
+            offered(&desk, &[&verb, "file", "-"]),
+            options.into_iter().collect(),
+            "{verb}"
+        );
+        names.insert(verb);
     }
-    assert_eq!(met, 8 + 11);
+    assert_eq!(offered(&desk, &["help", ""]), names);
+    names.insert("help".into());
+    assert_eq!(offered(&desk, &[""]), names);
+    assert_eq!(offered(&desk, &["--json", ""]), names);
+    assert_eq!(offered(&desk, &["-"]), set("--help --version"));
+    assert_eq!(offered(&desk, &["pack", "--s"]), set("--signature"));
+}
+
+/// Where nothing is offered bash takes files, by `-o default`.
+#[test]
+fn bash_completes_values() {
+    let desk = Desk::new();
+    desk.put("home", "");
+    desk.put("table two", "");
+    for (words, values) in [
+        (&["pack", "--hash", ""][..], "sha256 sha384 sha512"),
+        (&["pack", "--hash", "=", "sha3"], "sha384"),
+        (&["pack", "--hash", "="], "sha256 sha384 sha512"),
+        (&["pack", "--hash", "sha256,n"], "sha256,none"),
+        (&["load", "--mode", ""], "32 64"),
+        (&["load", "--cpuid", "ho"], "home host"),
+        (&["load", "--cpuid", "t"], ""),
+        (&["load", "--map", ""], ""),
+        (&["pack", "-o", ""], ""),
+        (&["pack", ""], ""),
+        (&["pack", "--", "-"], ""),
+    ] {
+        assert_eq!(offered(&desk, words), set(values), "{words:?}");
+    }
+    assert!(offered(&desk, &["run", "--cpuid", ""]).contains("table two"));
+    assert!(document("completion/runnelpin.bash")
+        .ends_with("\ncomplete -o default -F _runnelpin runnelpin\n"));
+    let hashes = offered(&desk, &["pack", "--hash", "sha256,"]);
+    for value in hashes {
+        desk.put("file", "x");
+        let said = desk.run(&format!("pack file -o out --hash {value}"));
+        assert_eq!(said.status, 0, "{said:?}");
+    }
 }
 
 fn hex(bytes: &[u8]) -> String {
