@@ -191,6 +191,57 @@ fn bash_completes_values() {
     }
 }
 
+/// The sample under the names that help and page use.
+fn desk_of_examples() -> Desk {
+    let desk = sample::desk();
+    for (name, like) in [
+        ("route.csl", "file"),
+        ("route.sbs", "image"),
+        ("approved", "header"),
+        ("unit.map", "map"),
+    ] {
+        desk.put(name, desk.get(like));
+    }
+    fs::create_dir(desk.path("outbox")).unwrap();
+    desk
+}
+
+#[test]
+fn help_fits_a_terminal_and_its_examples_are_good() {
+    let desk = desk_of_examples();
+    let too_wide = |help: &str| help.lines().any(|line| line.len() > 80);
+    assert!(!too_wide(&desk.run("--help").out));
+    for (verb, ..) in verbs() {
+        let help = desk.run(&format!("help {verb}")).out;
+        assert!(!too_wide(&help), "{help}");
+        let (_, example) = help.split_once("\nExample:\n  runnelpin ").unwrap();
+        assert!(example.starts_with(&format!("{verb} ")), "{example}");
+        let said = desk.run(example);
+        assert_ne!(said.status, 2, "{example}: {said:?}");
+    }
+}
+
+/// Each in turn, but for pipes. Signature field and header are taken from an image that nobody has approved yet.
+#[test]
+fn the_man_pages_examples_are_good() {
+    let desk = desk_of_examples();
+    let page = document("docs/runnelpin.1");
+    let (_, page) = page.split_once("\n.SH DESCRIPTION\n").unwrap();
+    let page = page.replace("\\e\n", "").replace("\\-", "-");
+    let is_example = |line: &&str| line.starts_with("runnelpin ") && !line.contains('|');
+    let examples: Vec<&str> = page.lines().filter(is_example).collect();
+    for line in &examples {
+        let said = desk.shell(line);
+        assert_ne!(said.status, 2, "{line}: {said:?}");
+    }
+    let signature = examples.windows(2).any(|lines| {
+        lines[0] == "runnelpin header route.sbs -o header"
+            && lines[1] == "runnelpin signature route.sbs --header header -o field"
+    });
+    assert!(signature, "{examples:?}");
+    assert_eq!(desk.get("field").len(), sample::SIGNATURE);
+}
+
 fn hex(bytes: &[u8]) -> String {
     bytes.iter().map(|byte| format!("{byte:02x}")).collect()
 }

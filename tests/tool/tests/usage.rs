@@ -262,44 +262,6 @@ fn help_is_an_answer() {
     }
 }
 
-/// The verbs that `--help` lists.
-fn verbs(desk: &Desk) -> Vec<String> {
-    let help = desk.run("--help").out;
-    let lines = help.lines().filter_map(|line| line.strip_prefix("  "));
-    let verbs: Vec<String> = lines
-        .map(|line| line.split(' ').next().unwrap().into())
-        .collect();
-    assert!(verbs.len() >= 8, "{help}");
-    verbs
-}
-
-#[test]
-fn help_fits_a_terminal_and_its_examples_are_good() {
-    let desk = sample::desk();
-    for (name, like) in [
-        ("route.csl", "file"),
-        ("route.sbs", "image"),
-        ("approved", "header"),
-        ("unit.map", "map"),
-    ] {
-        desk.put(name, desk.get(like));
-    }
-    fs::create_dir(desk.path("outbox")).unwrap();
-    for verb in verbs(&desk) {
-        let help = desk.run(&format!("help {verb}")).out;
-        let wide = help.lines().find(|line| line.len() > 80);
-        assert_eq!(wide, None);
-        let (_, example) = help.split_once("\nExample:\n  runnelpin ").unwrap();
-        let said = desk.run(example);
-        assert_ne!(said.status, USAGE, "{example}: {said:?}");
-        assert!(example.starts_with(&verb), "{example}");
-    }
-    assert_eq!(
-        desk.run("--help").out.lines().find(|line| line.len() > 80),
-        None
-    );
-}
-
 #[test]
 fn the_version_is_the_headers() {
     let header = fs::read_to_string(repository().join("include/runnelpin.h")).unwrap();
