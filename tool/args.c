@@ -70,8 +70,8 @@ static void take_option(struct request *request, const struct word *word)
         fail("%s needs a value: %s", name, needed);
     if (needed && !*word->value)
         fail("%s needs a value that is not empty: %s", name, needed);
-    if (!strncmp(word->text, "-o=", 3)) /* nobody means a file called = something */
-        fail("%s: write -o %s", word->text, word->text + 3);
+    if (!strncmp(word->text, "-o=", 3)) /* nobody means a file whose name begins with = */
+        fail("%s: write -o %s", word->text, word->text[3] ? word->text + 3 : needed);
     request->value[word->option] = needed ? word->value : "";
 }
 

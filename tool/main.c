@@ -26,7 +26,7 @@ static const struct job jobs[] = {
     {"show", "IMAGE|FILE", 0, TAKES(MAP) | TAKES(JSON), job_show, NULL,
      "show what is in an image or a command file, and how far it is good", "route.sbs"},
     {"copy", "FILE", TAKES(OUTPUT), TAKES(JSON), job_copy, "COPY",
-     "copy a file; under the name of the copy there is never half of one", "route.sbs -o outbox/route.sbs"},
+     "copy a file; the copy gets its name only when it is complete", "route.sbs -o outbox/route.sbs"},
 };
 
 static double seconds(void)

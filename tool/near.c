@@ -29,5 +29,5 @@ int is_near(const char *typed, const char *name)
     size_t shorter = length < other ? length : other, longer = length < other ? other : length;
     size_t first = same_first(typed, name, shorter);
     size_t wrong = longer - first - same_last(typed + length, name + other, shorter - first);
-    return first && (first == length || (wrong <= 2 && 2 * wrong <= longer));
+    return first && (first == shorter || (wrong <= 2 && 2 * wrong <= longer));
 }

@@ -23,6 +23,9 @@ const struct option_form options[OPTIONS] = {
     [OPTION_VERSION] = {"--version", "-V", NULL, "print the version"},
 };
 
+static const char memory_after[] = "where to write what memory holds at the end; - is standard\n"
+                                   "output (default: nowhere)";
+
 /* What an option means to one verb only. */
 static const struct {
     const char *verb;
@@ -30,8 +33,11 @@ static const struct {
     const char *meaning;
 } special[] = {
     {"pack", OPTION_SIGNATURE, "the signature length, 1 to 4096 (default: 512)"},
-    {"signature", OPTION_HEADER, "the approved header; before the approval, the one that\n'runnelpin header' extracts"},
-    {"show", OPTION_MAP, "the memory map, to say what lies outside (default: none)"},
+    {"signature", OPTION_HEADER,
+     "the approved header; before it is approved, the one that\n'runnelpin header' extracts"},
+    {"load", OPTION_OUTPUT, memory_after},
+    {"run", OPTION_OUTPUT, memory_after},
+    {"show", OPTION_MAP, "the memory map, to say if the entry is outside it\n(default: none)"},
 };
 
 const char *option_meaning(enum option option, const char *verb)

@@ -1,8 +1,7 @@
-//! The tool's subcommands with the types of the library's calls, so that the cases of the second
-//! program can be run on it. What no command line can ask for is left to the second program: an
-//! answer record or an output of another length, records that aren't whole, modes other than 32 and
-//! 64, hashes without a name.
-//! So are megabytes.
+//! The tool's verbs with the types of the library's calls, so that the cases of the second program
+//! can be run on it. What no command line can ask for is left to the second program: an answer
+//! record or an output of another length, records that aren't whole, a mode other than 32 and 64,
+//! hashes without a name. So are megabytes.
 
 use crate::desk::{Desk, Said};
 use crate::json::Value;

@@ -107,6 +107,10 @@ fn names_that_are_not_known() {
             "unknown option -block; did you mean --block?",
         ),
         (
+            "pack file --output=out",
+            "unknown option --output; did you mean -o?",
+        ),
+        (
             "--jsno pack file -o out",
             "unknown option --jsno; did you mean --json?",
         ),
@@ -141,6 +145,7 @@ fn values_that_are_not_taken() {
     }
     all_bad(&[
         ("pack file -o=out", "-o=out: write -o out"),
+        ("pack file -o=", "-o=: write -o IMAGE"),
         ("pack file -o out --json=yes", "--json takes no value"),
         ("pack --help=yes", "--help takes no value"),
         (
