@@ -18,7 +18,7 @@ int job_header(const struct request *request)
     give_output(&r, c->header);
     if (!c->answer.code)
         say(&r.words, "done: a header of %zu bytes", c->header.length);
-    say(note(&r), not_approved);
+    say(note(&r), "%s", not_approved);
     return finish(&r);
 }
 

@@ -160,7 +160,7 @@ static void show_image(struct report *r)
         list_blocks(&s);
         list_commands(r, &s.file);
     }
-    say(note(r), not_approved);
+    say(note(r), "%s", not_approved);
 }
 
 int job_show(const struct request *request)
