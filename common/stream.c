@@ -1,7 +1,6 @@
 #include "stream.h"
 
 #include "fields.h"
-#include "runnelpin.h"
 
 struct stream stream_of_file(const uint8_t *file, uint64_t length)
 {
@@ -16,7 +15,7 @@ struct stream stream_of_image(const uint8_t *image)
         .hash_length = field(image, FIELD_HASHSUM_LENGTH),
         .padding = field(image, FIELD_PADDING),
     };
-    s.length = s.known = runnelpin_file_length(image, LEAST_HEADER);
+    s.length = s.known = bytes_before_block(&s, field(image, FIELD_BLOCK_COUNT) + 1);
     return s;
 }
 

@@ -12,17 +12,25 @@ extern "C" {
 #endif
 
 /*
- * Every call answers every input: each checks all that it is given, and all but runnelpin_signature
- * return one of these codes. `header` is the bytes that the security chip approved, never the image's
- * own first bytes; `signature_length` is that of the chip's signatures, 1 to 4096.
- * A slice is a pointer and its length in bytes. It may lie at any address, without alignment, and
- * may be NULL where its length is 0. What a call writes to overlaps nothing else that is lent to it,
- * and nothing that is lent changes during the call. Image, header, map and table may overlap.
+ * A call checks every number and byte that it is given, and answers whatever they are; all calls but
+ * runnelpin_signature return one of these codes. It cannot check pointers: a slice is a pointer and a length
+ * in bytes, and all of these bytes must be there to be read, or to be written where the call writes. A slice
+ * may lie at any address, without alignment, and may be NULL where its length is 0. What a call writes to
+ * overlaps nothing else that is lent to it, and nothing that is lent changes during the call. Image, header,
+ * map and table may overlap.
+ *
+ * For runnelpin_load and runnelpin_open, `header` is the bytes that the security chip approved, never the
+ * image's own first bytes. runnelpin_signature is called before approval, with the image's own first bytes,
+ * as many as its header size says: what it finds is what the chip then verifies.
+ *
+ * `signature_length` is the signature length to expect, 1 to 4096: the one that `header` states
+ * (runnelpin_stated_signature_length), or, where all signatures of the unit's chip have one length, that
+ * number; an image with another is then refused.
  *
  * The calls are for x86-64 and the System V convention. They use general registers, flags and xmm0 to
  * xmm15, so SSE2 is on, and the 128 bytes below the stack pointer, so interrupts are off or handled on
  * another stack. No call takes more than 4 KiB of stack; what each takes stands in docs/STUB.md. They
- * keep no data between calls and want memcpy and memset, nothing else.
+ * keep no data between calls and need memcpy and memset, nothing else.
  */
 enum {
     RUNNELPIN_DONE = 0,
@@ -122,11 +130,11 @@ struct runnelpin_field runnelpin_signature(const uint8_t *image, size_t image_le
                                            size_t header_length, uint64_t signature_length);
 
 /*
- * The lengths that an output must have. These functions are not part of the library and not proved; a wrong
- * length is refused with RUNNELPIN_OUTPUT_LENGTH.
+ * Lengths, worked out from numbers and headers. These functions are not part of the library and not proved: the
+ * calls judge all that they are given by themselves.
  */
 
-/* A hash's digest; 0 for RUNNELPIN_NO_HASH and for an ID that is not known. */
+/* A hash's digest; 0 for RUNNELPIN_NO_HASH and for an unknown ID. */
 static inline uint64_t runnelpin_digest_length(uint64_t id)
 {
     switch (id) {
@@ -141,18 +149,35 @@ static inline uint64_t runnelpin_digest_length(uint64_t id)
     }
 }
 
-/* The image of a file that runnelpin_pack takes, all numbers being as it takes them. */
+/* The hashsum that these hashes make together; 0 where one is unknown or the first is RUNNELPIN_NO_HASH. */
+static inline uint64_t runnelpin_hashsum_length(uint64_t id1, uint64_t id2, uint64_t id3, uint64_t id4)
+{
+    uint64_t length1 = runnelpin_digest_length(id1), length2 = runnelpin_digest_length(id2),
+             length3 = runnelpin_digest_length(id3), length4 = runnelpin_digest_length(id4);
+    if (length1 == 0 || (length2 == 0 && id2 != 0) || (length3 == 0 && id3 != 0) || (length4 == 0 && id4 != 0))
+        return 0;
+    return length1 + length2 + length3 + length4;
+}
+
+/*
+ * The image of a file: the length that runnelpin_pack's output must have, 0 where it refuses these numbers
+ * whatever output it is given.
+ */
 static inline uint64_t runnelpin_image_length(uint64_t file_length, uint64_t id1, uint64_t id2, uint64_t id3,
                                               uint64_t id4, uint64_t block_size, uint64_t signature_length)
 {
-    uint64_t hashsum = runnelpin_digest_length(id1) + runnelpin_digest_length(id2) + runnelpin_digest_length(id3) +
-                       runnelpin_digest_length(id4);
-    uint64_t data = block_size > hashsum ? block_size - hashsum : 1;
-    uint64_t blocks = file_length / data + (file_length % data != 0);
-    return 36 + hashsum + signature_length + blocks * block_size;
+    const uint64_t limit = 1073741824; /* 2^30 */
+    const uint64_t hashsum = runnelpin_hashsum_length(id1, id2, id3, id4);
+    if (hashsum == 0 || block_size <= hashsum || block_size > 1048576 || file_length < 1 || file_length > limit ||
+        signature_length < 1 || signature_length > 4096)
+        return 0;
+
+    uint64_t data = block_size - hashsum, blocks = (file_length + data - 1) / data;
+    uint64_t length = 36 + hashsum + signature_length + blocks * block_size;
+    return length > limit ? 0 : length;
 }
 
-/* A number of a header: `width` bytes from `at` on, little-endian. */
+/* For the functions below: the number in `width` bytes of a header from `at` on, little-endian. */
 static inline uint64_t runnelpin_header_number(const uint8_t *header, size_t at, size_t width)
 {
     uint64_t value = 0;
@@ -161,24 +186,49 @@ static inline uint64_t runnelpin_header_number(const uint8_t *header, size_t at,
     return value;
 }
 
-/* The file in an image with this header, where runnelpin_open takes it; 0 for one under 36 bytes. */
-static inline uint64_t runnelpin_file_length(const uint8_t *header, size_t header_length)
+/* How many of the image's first bytes are its own header, as it states; 0 where the image has fewer bytes. */
+static inline size_t runnelpin_stated_header_length(const uint8_t *image, size_t image_length)
 {
-    if (header_length < 36)
-        return 0;
-    return runnelpin_header_number(header, 4, 4) *
-               (runnelpin_header_number(header, 8, 4) - runnelpin_header_number(header, 18, 2)) -
-           runnelpin_header_number(header, 32, 4);
+    size_t stated = image_length < 36 ? 0 : (size_t)runnelpin_header_number(image, 16, 2);
+    return stated > image_length ? 0 : stated;
 }
 
 /*
- * The signature length that an approved header states, to be expected by a unit whose chip has no one length of
- * its own. A header that states none from 1 to 4096 is refused with any; for it this is 1.
+ * The signature length that a header states. It is 1 where the header states none from 1 to 4096 or has under 36
+ * bytes: that is refused with every expected length, and so for what is wrong with it.
  */
 static inline uint64_t runnelpin_stated_signature_length(const uint8_t *header, size_t header_length)
 {
     uint64_t stated = header_length < 36 ? 1 : runnelpin_header_number(header, 12, 4);
     return stated < 1 || stated > 4096 ? 1 : stated;
+}
+
+/*
+ * The file in an image with this header: the length that runnelpin_open's output must have, 0 where it refuses
+ * this header whatever else it is given.
+ */
+static inline uint64_t runnelpin_file_length(const uint8_t *header, size_t header_length)
+{
+    if (header_length < 36 || runnelpin_header_number(header, 0, 4) != 0xe6019598 ||
+        runnelpin_header_number(header, 28, 2) != 1)
+        return 0;
+
+    uint64_t id1 = runnelpin_header_number(header, 20, 2), id2 = runnelpin_header_number(header, 22, 2),
+             id3 = runnelpin_header_number(header, 24, 2), id4 = runnelpin_header_number(header, 26, 2);
+    uint64_t hashsum = runnelpin_hashsum_length(id1, id2, id3, id4);
+    if (runnelpin_header_number(header, 18, 2) != hashsum || runnelpin_header_number(header, 16, 2) != 36 + hashsum ||
+        header_length != 36 + hashsum)
+        return 0;
+
+    uint64_t blocks = runnelpin_header_number(header, 4, 4), block_size = runnelpin_header_number(header, 8, 4),
+             padding = runnelpin_header_number(header, 32, 4);
+    if (blocks == 0 || block_size <= hashsum || padding >= block_size - hashsum)
+        return 0;
+
+    uint64_t file_length = blocks * (block_size - hashsum) - padding;
+    uint64_t image_length = runnelpin_image_length(file_length, id1, id2, id3, id4, block_size,
+                                                   runnelpin_header_number(header, 12, 4));
+    return image_length == 0 ? 0 : file_length;
 }
 
 #ifdef __cplusplus

@@ -39,6 +39,8 @@ static const int codes[] = {
     RUNNELPIN_EMPTY_FILE,     RUNNELPIN_OUTPUT_LENGTH
 };
 
+static const int hash_ids[] = { RUNNELPIN_NO_HASH, 1, RUNNELPIN_SHA2_256, RUNNELPIN_SHA2_384, RUNNELPIN_SHA2_512 };
+
 static uint8_t image[IMAGE + 1], header[HEADER + 1], memory[MEMORY], output[FILE_BYTES];
 static struct runnelpin_answer room[2], *const answer = room; /* the second is never written to */
 
@@ -158,6 +160,7 @@ static void test_signature(void)
         runnelpin_signature(l.image, l.image_length, l.header, l.header_length, l.signature_length);
     expect("signature: start", field.start, HEADER);
     expect("signature: length", field.length, SIGNATURE);
+    expect("signature: before approval", WITH(signature_start, header, image), HEADER);
     expect("signature: image", WITH(signature_start, image, image + 1), 0);
     expect("signature: image length", WITH(signature_start, image_length, IMAGE - 1), 0);
     expect("signature: header", WITH(signature_start, header, header + 1), 0);
@@ -244,6 +247,8 @@ int main(void)
 {
     for (size_t i = 0; i < sizeof codes / sizeof *codes; i++)
         expect("a code's name", (uint64_t)codes[i], i);
+    for (size_t i = 0; i < sizeof hash_ids / sizeof *hash_ids; i++)
+        expect("a hash's name", (uint64_t)hash_ids[i], i);
     expect("the record's length", sizeof *answer, RUNNELPIN_ANSWER_BYTES);
     test_pack();
     test_signature();
