@@ -54,8 +54,8 @@ static uint64_t pack(const struct packing *p, uint8_t *output, uint64_t length)
 
 static struct packing picked_packing(void)
 {
-    static const uint64_t files[] = { 0, 1, 55, 56, 57, 64, 65, 164, 5000, LIMIT - 1, LIMIT, LIMIT + 1, WIDE, WIDE + 9 };
-    static const uint64_t blocks[] = { 0, 32, 33, 96, 144, 145, 200, 256, 257, 1048576, 1048577, WIDE + 96, UINT64_MAX };
+    static const uint64_t files[] = { 0, 1, 55, 56, 57, 64, 65, 164, 5000, LIMIT - 1, LIMIT, LIMIT + 1, WIDE + 9 };
+    static const uint64_t blocks[] = { 0, 32, 33, 96, 144, 145, 200, 256, 257, 1048576, 1048577, WIDE + 96 };
     static const uint64_t signatures[] = { 0, 1, 9, 310, 4096, 4097, WIDE + 9, UINT64_MAX };
     struct packing p = { PICK(files), { picked_id(), picked_id(), picked_id(), picked_id() }, PICK(blocks),
                          PICK(signatures) };
