@@ -1,5 +1,6 @@
 #include "command.h"
 
+#include "board.h"
 #include "image.h"
 #include "little.h"
 #include "runnelpin.h"
@@ -7,16 +8,31 @@
 #include <inttypes.h>
 #include <string.h>
 
-#define REACH_LIMIT ((uint64_t)1 << 52)
+enum { CHECK_TEXT = 24, TEXT_BYTES = 64 };
+
+const char *const register_names[REGISTERS] = {"EAX", "EBX", "ECX", "EDX"};
+
+struct check check_of(const struct command *c)
+{
+    const uint8_t *at = c->parameters, *text = at + CHECK_TEXT, *zero = memchr(text, 0, TEXT_BYTES);
+    return (struct check){.eax = little(at + 4, 4),
+                          .ecx = little(at, 4),
+                          .value = little(at + 8, 4),
+                          .mask = little(at + 12, 4),
+                          .number = at[16],
+                          .text = text,
+                          .text_length = zero ? (size_t)(zero - text) : TEXT_BYTES};
+}
 
 /* The refusal that a command's parameters bring with any map and any table. */
 static uint64_t judge_parameters(const struct command *c)
 {
-    if (c->has_address && (c->address >= REACH_LIMIT || c->count > REACH_LIMIT - c->address))
+    uint64_t limit = reach_limit(64);
+    if (c->has_address && (c->address >= limit || c->count > limit - c->address))
         return RUNNELPIN_NOT_REACHABLE;
-    if (c->has_check && !memchr(c->parameters + 24, 0, 64))
+    if (c->has_check && check_of(c).text_length == TEXT_BYTES)
         return RUNNELPIN_TEXT;
-    if (c->has_check && c->parameters[16] > 3)
+    if (c->has_check && check_of(c).number >= REGISTERS)
         return RUNNELPIN_REGISTER;
     return RUNNELPIN_DONE;
 }
@@ -28,7 +44,7 @@ static void take_parameters(struct command *c)
     if (c->has_address)
         c->address = little(c->parameters, 8);
     if (c->id == COMMAND_FILL) {
-        c->has_count = 1;
+        c->has_count = c->has_pattern = 1;
         c->count = little(c->parameters + 8, 8);
     }
 }
@@ -65,20 +81,14 @@ uint64_t read_command(const struct stream *file, uint64_t offset, struct command
 
 static void say_check(struct text *text, const struct command *c)
 {
-    static const char *const registers[] = {"EAX", "EBX", "ECX", "EDX"};
-    const uint8_t *at = c->parameters, *zero = memchr(at + 24, 0, 64);
-    say(text, " of EAX 0x%" PRIx64 ", ECX 0x%" PRIx64 ": ", little(at + 4, 4), little(at, 4));
-    if (at[16] < 4)
-        say(text, "%s", registers[at[16]]);
+    struct check check = check_of(c);
+    say(text, " of EAX 0x%" PRIx64 ", ECX 0x%" PRIx64 ": ", check.eax, check.ecx);
+    if (check.number < REGISTERS)
+        say(text, "%s", register_names[check.number]);
     else
-        say(text, "register %u", at[16]);
-    say(text, " & 0x%" PRIx64 " = 0x%" PRIx64 ", ", little(at + 12, 4), little(at + 8, 4));
-    say_quoted(text, at + 24, zero ? (size_t)(zero - at - 24) : 64);
-}
-
-static void say_bytes(struct text *text, uint64_t count)
-{
-    say(text, "%" PRIu64 " byte%s", count, count == 1 ? "" : "s");
+        say(text, "register %u", check.number);
+    say(text, " & 0x%" PRIx64 " = 0x%" PRIx64 ", ", check.mask, check.value);
+    say_quoted(text, check.text, check.text_length);
 }
 
 void say_command(struct text *text, const struct command *c)
@@ -89,15 +99,12 @@ void say_command(struct text *text, const struct command *c)
     if (c->has_check) {
         say_check(text, c);
     } else if (c->has_count) {
-        say(text, " of ");
-        say_bytes(text, c->count);
+        say(text, " of %" PRIu64 " byte%s", c->count, plural(c->count));
     } else if (!c->has_address) {
-        say(text, " with ");
-        say_bytes(text, c->length);
-        say(text, " of data");
+        say(text, " with %" PRIu64 " byte%s of data", c->length, plural(c->length));
     }
-    if (c->id == COMMAND_FILL && c->has_count)
-        say(text, " of 0x%02x", c->parameters[16]);
+    if (c->has_pattern)
+        say(text, " of 0x%02x", c->parameters[FILL_PATTERN]);
     if (c->has_address)
         say(text, " at 0x%" PRIx64, c->address);
 }

@@ -6,15 +6,34 @@
 #include "stream.h"
 #include "text.h"
 
+/* Where a fill's parameters have its pattern. */
+enum { FILL_PATTERN = 16 };
+
 struct command {
     uint64_t offset;  /* of its first byte in the file */
     const char *name; /* NULL for an unknown one */
     uint64_t id, length;
     uint64_t address, count;               /* where it stores, and how many bytes */
     int is_known;                          /* its header counts */
-    int has_address, has_count, has_check; /* which of its parameters count */
+    int has_address, has_count;            /* which of its parameters count */
+    int has_pattern, has_check;
     uint8_t parameters[MOST_PARAMETERS];
 };
+
+/* The registers that CPUID gives its results in, by their numbers. */
+enum { REGISTERS = 4 };
+extern const char *const register_names[REGISTERS];
+
+/* The parameters of a CPUID check. */
+struct check {
+    uint64_t eax, ecx, value, mask;
+    unsigned number;     /* of the register; none where it is over 3 */
+    const uint8_t *text; /* up to its zero byte, or all of it */
+    size_t text_length;
+};
+
+/* Of a command that has a check. */
+struct check check_of(const struct command *command);
 
 /*
  * Reads the command at an offset within the file, as far as its bytes count. Gives the refusal that

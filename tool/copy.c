@@ -13,6 +13,6 @@ int job_copy(const struct request *request)
         return finish(&r);
     }
     write_file(request->value[OPTION_OUTPUT], *file);
-    say(&r.words, "done: %zu bytes copied", file->length);
+    say(&r.words, "done: %zu byte%s copied", file->length, plural(file->length));
     return finish(&r);
 }

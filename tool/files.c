@@ -49,6 +49,8 @@ struct bytes read_file(const char *path, uint64_t most)
         fail("%s: can't be read: %s", path, strerror(errno));
     uint64_t size = S_ISREG(about.st_mode) ? (uint64_t)about.st_size : 65536;
     struct bytes all = size > most ? zeros(most + 1) : read_all(file, path, most, size + 1);
+    if (size > most && read(file, all.at, most < 1 << 20 ? most : 1 << 20) < 0) /* enough for a header */
+        fail("%s: can't be read: %s", path, strerror(errno));
     close(file);
     totals.read += all.length;
     return all;

@@ -2,9 +2,10 @@
 #ifndef HOST_H
 #define HOST_H
 
+#include "lists.h"
 #include "text.h"
 
 /* The records, ascending, as the library reads them; says how many there are and what is left out. */
-struct bytes host_table(struct text *about);
+struct list host_table(struct text *about);
 
 #endif

@@ -1,5 +1,6 @@
 #include "image.h"
 
+#include <inttypes.h>
 #include <string.h>
 
 const char *const field_names[FIELDS] = {
@@ -18,18 +19,18 @@ const char *const field_names[FIELDS] = {
     [FIELD_PADDING] = "padding_length",
 };
 
-void say_field_name(struct text *text, enum field which)
-{
-    for (const char *at = field_names[which]; *at; at++)
-        say(text, "%c", *at == '_' ? ' ' : *at);
-}
-
 static const struct hash hashes[] = {{"none", RUNNELPIN_NO_HASH},
                                      {"sha256", RUNNELPIN_SHA2_256},
                                      {"sha384", RUNNELPIN_SHA2_384},
                                      {"sha512", RUNNELPIN_SHA2_512}};
 
 enum { KNOWN_HASHES = sizeof hashes / sizeof *hashes };
+
+void say_hashes(struct text *text, int with_none)
+{
+    for (int i = with_none ? 0 : 1; i < KNOWN_HASHES; i++)
+        say(text, "%" PRIu64 " %s%s", hashes[i].id, hashes[i].name, i < KNOWN_HASHES - 1 ? ", " : "");
+}
 
 const struct hash *hash_named(const char *name, size_t length)
 {
@@ -45,6 +46,59 @@ const struct hash *hash_of_id(uint64_t id)
         if (hashes[i].id == id)
             return &hashes[i];
     return NULL;
+}
+
+/* Whether at least half of the bytes that spell the magic are where they belong. */
+static int has_half(struct bytes all, uint64_t magic, size_t width)
+{
+    size_t same = 0;
+    for (size_t i = 0; i < width && i < all.length; i++)
+        same += all.at[i] == (uint8_t)(magic >> 8 * i);
+    return same >= width / 2;
+}
+
+int is_like_commands(struct bytes all)
+{
+    return has_half(all, FILE_MAGIC, 8);
+}
+
+int is_command_file(struct bytes all)
+{
+    return all.length >= 8 && little(all.at, 8) == FILE_MAGIC;
+}
+
+static int has_fitting_sizes(struct bytes all)
+{
+    return all.length >= LEAST_HEADER && field(all.at, FIELD_HASHSUM_LENGTH) &&
+           field(all.at, FIELD_HEADER_SIZE) == LEAST_HEADER + field(all.at, FIELD_HASHSUM_LENGTH);
+}
+
+int is_like_image(struct bytes all)
+{
+    return has_half(all, IMAGE_MAGIC, 4) || (has_fitting_sizes(all) && !is_like_commands(all));
+}
+
+void say_beginning(struct text *text, const uint8_t *file, uint64_t length, size_t count)
+{
+    if (!length) {
+        say(text, "it is empty");
+    } else if (length < count) {
+        say(text, "it has only %" PRIu64 " byte%s", length, plural(length));
+    } else {
+        say(text, "it begins with ");
+        say_hex(text, file, count);
+    }
+}
+
+void say_no_image(struct text *text, struct bytes all)
+{
+    const size_t width = 4;
+    if (!is_like_image(all))
+        say(text, "not an image: ");
+    say_beginning(text, all.at, all.length, width);
+    say(text, ", and an image %swith " IMAGE_BEGINS, all.length < width ? "begins " : "");
+    if (is_command_file(all))
+        say(text, "; this is a command file: use pack or run");
 }
 
 struct bytes own_header(struct bytes image)

@@ -48,6 +48,12 @@ void json_number(const char *key, uint64_t value)
     fprintf(answers(), value > (uint64_t)1 << 53 ? "\"%" PRIu64 "\"" : "%" PRIu64, value);
 }
 
+void json_truth(const char *key, int is_true)
+{
+    begin_item(key);
+    fputs(is_true ? "true" : "false", answers());
+}
+
 void json_text(const char *key, const struct text *text)
 {
     begin_item(key);

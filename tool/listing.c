@@ -48,3 +48,11 @@ void list_text(const char *name, const struct text *value)
     else
         fprintf(answers(), "  %-16s  %s\n", name, value->at);
 }
+
+void list_truth(const char *name, int is_true, const char *words)
+{
+    if (is_json)
+        json_truth(name, is_true);
+    else
+        fprintf(answers(), "%s\n", words);
+}

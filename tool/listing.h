@@ -15,4 +15,7 @@ void close_part(char bracket);
 void list_number(const char *name, uint64_t value);
 void list_text(const char *name, const struct text *value);
 
+/* True or false in JSON; in text it is a line with the words for it. */
+void list_truth(const char *name, int is_true, const char *words);
+
 #endif

@@ -16,78 +16,105 @@ struct form {
     size_t numbers, width;
 };
 
-static const struct form region = {"a region", "base length", 2, 8};
-static const struct form record = {"a CPUID record", "two inputs, EAX ECX, and four results, EAX EBX ECX EDX",
-                                   RECORD_WORDS, 4};
+static const struct form region = {"a region", "base and length", 2, 8};
+static const struct form record = {
+    "a CPUID record", "two inputs, EAX and ECX, and four results, EAX, EBX, ECX and EDX", RECORD_WORDS, 4};
 
-struct place {
-    const char *path;
+/* The text that is still to be read, and the number of the line that it begins with. */
+struct reading {
+    const struct form *form;
+    const char *path, *at, *end;
     size_t line;
 };
 
-static void bad_number(const struct place *place, const char *word, size_t length, size_t width)
+static void bad_number(const struct reading *r, const char *word, size_t length)
 {
     struct text quoted = {NULL, 0};
     say_quoted(&quoted, (const uint8_t *)word, length < 24 ? length : 24);
-    fail("%s: line %zu: %s is not a %zu-bit number (decimal, or hexadecimal after 0x)", place->path, place->line,
-         quoted.at, 8 * width);
+    fail("%s, line %zu: %s is not a %zu-bit number (decimal, or hexadecimal after 0x)", r->path, r->line, quoted.at,
+         8 * r->form->width);
 }
 
-/* Puts the numbers of one line into the list, unless there are none. */
-static void read_line(struct bytes *list, const char *line, size_t length, const struct form *form,
-                      const struct place *place)
+static int is_between(char character)
 {
-    static const char between[] = " \t\r";
-    size_t count = 0, i = 0;
-    while (i < length && line[i] != '#') {
-        size_t from = i;
-        while (i < length && line[i] != '#' && !(line[i] && strchr(between, line[i])))
-            i++;
-        if (i == from) {
-            i++;
-            continue;
-        }
+    return character == ' ' || character == '\t' || character == '\r'; /* CR is part of a line end */
+}
+
+static const char *end_of_word(const char *at, const char *stop)
+{
+    while (at < stop && *at != '#' && !is_between(*at))
+        at++;
+    return at;
+}
+
+/* Puts the numbers of the line up to `stop` into the list, unless there are none; gives their count. */
+static size_t read_numbers(struct list *list, const struct reading *r, const char *stop)
+{
+    const struct form *form = r->form;
+    size_t count = 0;
+    for (const char *at = r->at; at < stop && *at != '#';) {
+        size_t length = (size_t)(end_of_word(at, stop) - at);
         uint64_t value;
-        if (!read_number(line + from, i - from, UINT64_MAX >> (64 - 8 * form->width), &value))
-            bad_number(place, line + from, i - from, form->width);
-        if (count++ < form->numbers) {
+        if (length && !read_number(at, length, UINT64_MAX >> (64 - 8 * form->width), &value))
+            bad_number(r, at, length);
+        if (length && count++ < form->numbers) {
             put_little(list->at + list->length, form->width, value);
             list->length += form->width;
         }
+        at += length ? length : 1;
     }
-    if (count && count != form->numbers)
-        fail("%s: line %zu: %zu number%s, but %s has %zu: %s", place->path, place->line, count, count == 1 ? "" : "s",
-             form->name, form->numbers, form->line);
+    return count;
 }
 
-static struct bytes read_list(const char *path, const struct form *form)
+static void read_line(struct list *list, const struct reading *r, const char *stop)
 {
+    const struct form *form = r->form;
+    size_t record = list->length / (form->numbers * form->width);
+    size_t count = read_numbers(list, r, stop);
+    if (count && count != form->numbers)
+        fail("%s, line %zu: %zu number%s, but %s has %zu: %s", r->path, r->line, count, plural(count), form->name,
+             form->numbers, form->line);
+    if (count)
+        list->lines[record] = r->line;
+}
+
+/* The file's text, without the byte order mark that some editors put before it. */
+static struct reading begin_reading(const char *path, const struct form *form)
+{
+    static const char mark[] = "\xef\xbb\xbf";
     struct bytes text = read_file(path, MOST_TEXT);
     if (text.length > MOST_TEXT)
-        fail("%s: over %d bytes; this should be a text file with lines of '%s'", path, MOST_TEXT, form->line);
-    size_t lines = 1;
-    for (size_t i = 0; i < text.length; i++)
-        lines += text.at[i] == '\n';
-    struct bytes list = {allocate(NULL, lines * form->numbers * form->width), 0};
-    struct place place = {path, 0};
+        fail("%s: over %d bytes; this should be a text file, on each line %s", path, MOST_TEXT, form->line);
     const char *at = (const char *)text.at, *end = at + text.length;
-    while (at < end) {
-        const char *stop = memchr(at, '\n', (size_t)(end - at));
+    if (text.length >= strlen(mark) && !memcmp(at, mark, strlen(mark)))
+        at += strlen(mark);
+    return (struct reading){form, path, at, end, 1};
+}
+
+static struct list read_list(const char *path, const struct form *form)
+{
+    struct reading r = begin_reading(path, form);
+    size_t lines = 1;
+    for (const char *at = r.at; at < r.end; at++)
+        lines += *at == '\n';
+    struct list list = {allocate(NULL, lines * form->numbers * form->width), 0, path,
+                        allocate(NULL, lines * sizeof *list.lines)};
+    for (; r.at < r.end; r.line++) {
+        const char *stop = memchr(r.at, '\n', (size_t)(r.end - r.at));
         if (!stop)
-            stop = end;
-        place.line++;
-        read_line(&list, at, (size_t)(stop - at), form, &place);
-        at = stop + 1;
+            stop = r.end;
+        read_line(&list, &r, stop);
+        r.at = stop < r.end ? stop + 1 : r.end;
     }
     return list;
 }
 
-struct bytes read_map(const char *path)
+struct list read_map(const char *path)
 {
     return read_list(path, &region);
 }
 
-struct bytes read_table(const char *path)
+struct list read_table(const char *path)
 {
     return read_list(path, &record);
 }

@@ -4,8 +4,16 @@
 
 #include "bytes.h"
 
-/* The records as the library reads them; a line that can't be read ends the tool. */
-struct bytes read_map(const char *path);
-struct bytes read_table(const char *path);
+/* Records as the library reads them, and where they were written. */
+struct list {
+    uint8_t *at;
+    size_t length;
+    const char *path; /* or what else it comes from */
+    size_t *lines;    /* of each record its line in the file; NULL where it stands in none */
+};
+
+/* A line that can't be read ends the tool. */
+struct list read_map(const char *path);
+struct list read_table(const char *path);
 
 #endif

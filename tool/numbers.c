@@ -16,7 +16,7 @@ static unsigned digit(char character)
 int read_number(const char *text, size_t length, uint64_t most, uint64_t *value)
 {
     unsigned base = 10;
-    if (length >= 2 && text[0] == '0' && text[1] == 'x') {
+    if (length >= 2 && text[0] == '0' && (text[1] == 'x' || text[1] == 'X')) {
         base = 16;
         text += 2;
         length -= 2;

@@ -16,6 +16,6 @@ int job_open(const struct request *request)
     }
     give_output(&r, file);
     if (!c->answer.code)
-        say(&r.words, "done: a file of %zu bytes, all blocks proved", file.length);
+        say(&r.words, "done: a file of %zu byte%s, all blocks proved", file.length, plural(file.length));
     return finish(&r);
 }

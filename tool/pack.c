@@ -7,11 +7,6 @@
 #include <inttypes.h>
 #include <string.h>
 
-struct packing {
-    struct bytes file;
-    uint64_t ids[HASHES], block_size, signature_length;
-};
-
 static void read_hashes(const char *names, uint64_t *ids)
 {
     const char *name = names;
@@ -43,6 +38,7 @@ int job_pack(const struct request *request)
     read_hashes(names ? names : "sha512", p.ids);
     p.file = r.call.image = read_file(request->operand, LARGEST);
     r.call.signature_length = p.signature_length;
+    r.call.packing = &p;
     struct bytes image = {NULL, 0};
     uint64_t code = pack_into(&p, image);
     if (code == RUNNELPIN_OUTPUT_LENGTH) {
@@ -57,6 +53,8 @@ int job_pack(const struct request *request)
             image.length, field(image.at, FIELD_BLOCK_COUNT), p.block_size, field(image.at, FIELD_PADDING));
         say(note(&r), "the image is not signed yet: its %" PRIu64 "-byte signature field is all zeros",
             p.signature_length);
+        if (!is_command_file(p.file))
+            say(note(&r), "the file is not a command file " FILE_BEGINS ": it can be opened, but not loaded");
     }
     return finish(&r);
 }

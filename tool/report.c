@@ -10,7 +10,7 @@
 
 struct report new_report(const struct request *request)
 {
-    struct report r = {.request = request, .call = new_call()};
+    struct report r = {.request = request, .call = new_call(request)};
     return r;
 }
 
@@ -63,6 +63,7 @@ int finish(struct report *r)
         print_text(r);
     end_answer();
     if (is_refused && (is_json || !is_one_place()))
-        complain("%s: %s", r->request->operand, r->words.at);
+        complain("%s%s%s", is_of_operand(&r->call) ? r->request->operand : "", is_of_operand(&r->call) ? ": " : "",
+                 r->words.at);
     return is_refused ? STATUS_REFUSED : STATUS_DONE;
 }

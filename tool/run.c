@@ -1,3 +1,4 @@
+#include "entry.h"
 #include "files.h"
 #include "host.h"
 #include "image.h"
@@ -30,8 +31,9 @@ static int finish_run(struct report *r)
     const struct runnelpin_answer *a = &r->call.answer;
     give_output(r, r->call.board.memory);
     if (!a->code)
-        say(&r->words, "done: %" PRIu64 " commands, %" PRIu64 " bytes stored, entry 0x%" PRIx64, a->commands, a->stored,
-            a->entry);
+        say(&r->words, "done: %" PRIu64 " command%s, %" PRIu64 " byte%s stored, entry 0x%" PRIx64, a->commands,
+            plural(a->commands), a->stored, plural(a->stored), a->entry);
+    note_entry(r);
     return finish(r);
 }
 

@@ -1,5 +1,6 @@
 #include "codes.h"
 #include "command.h"
+#include "entry.h"
 #include "files.h"
 #include "image.h"
 #include "jobs.h"
@@ -8,30 +9,19 @@
 #include "taking.h"
 
 #include <inttypes.h>
+#include <stdlib.h>
 
-/* Whether it is an image rather than a command file: half of the magic will do, or sizes that fit. */
-static int is_image(struct bytes all)
-{
-    uint8_t magic[4];
-    size_t same = 0;
-    put_little(magic, sizeof magic, IMAGE_MAGIC);
-    for (size_t i = 0; i < sizeof magic && i < all.length; i++)
-        same += magic[i] == all.at[i];
-    return same >= sizeof magic / 2 ||
-           (all.length >= LEAST_HEADER && field(all.at, FIELD_HASHSUM_LENGTH) &&
-            field(all.at, FIELD_HEADER_SIZE) == LEAST_HEADER + field(all.at, FIELD_HASHSUM_LENGTH));
-}
-
-/* A header field: the magic as it is written, a hash by its name. */
+/* A header field: the magic as it is written, a hash with its name in text. */
 static void list_field(const uint8_t *header, enum field f)
 {
     struct text text = {NULL, 0};
     uint64_t value = field(header, f);
-    const struct hash *hash = f >= FIELD_HASH_1 && f <= FIELD_HASH_4 ? hash_of_id(value) : NULL;
-    if (hash)
-        say(&text, "%s", hash->name);
-    else if (f == FIELD_MAGIC)
+    if (f == FIELD_MAGIC) {
         say(&text, "0x%08" PRIx64, value);
+    } else if (f >= FIELD_HASH_1 && f <= FIELD_HASH_4 && !is_in_json()) {
+        const struct hash *hash = hash_of_id(value);
+        say(&text, "%" PRIu64 " (%s)", value, hash ? hash->name : "not known");
+    }
     if (text.at)
         list_text(field_names[f], &text);
     else
@@ -84,6 +74,32 @@ static void list_blocks(const struct survey *s)
     close_part('}');
 }
 
+static void list_check(struct check check)
+{
+    struct text text = {NULL, 0};
+    say(&text, "%.*s", (int)check.text_length, (const char *)check.text);
+    list_number("eax", check.eax);
+    list_number("ecx", check.ecx);
+    list_number("register", check.number);
+    list_number("mask", check.mask);
+    list_number("value", check.value);
+    list_text("text", &text);
+    free(text.at);
+}
+
+/* What a command has besides ID and length, each as a field of its own. */
+static void list_parameters(const struct command *c)
+{
+    if (c->has_address)
+        list_number("address", c->address);
+    if (c->has_count)
+        list_number("count", c->count);
+    if (c->has_pattern)
+        list_number("pattern", c->parameters[FILL_PATTERN]);
+    if (c->has_check)
+        list_check(check_of(c));
+}
+
 static void list_command(const struct command *c)
 {
     static struct text name, words; /* used again for each: there may be millions */
@@ -100,10 +116,7 @@ static void list_command(const struct command *c)
     list_number("id", c->id);
     list_text("name", &name);
     list_number("length", c->length);
-    if (c->has_address)
-        list_number("address", c->address);
-    if (c->has_count)
-        list_number("count", c->count);
+    list_parameters(c);
     list_text("words", &words);
     close_part('}');
 }
@@ -130,9 +143,13 @@ static void list_commands(struct report *r, const struct stream *file)
     }
     if (!a->code) {
         a->entry = w.entry;
-        say(&r->words, "done: %" PRIu64 " commands, entry 0x%" PRIx64, w.whole, w.entry);
+        say(&r->words, "done: %" PRIu64 " command%s, entry 0x%" PRIx64, w.whole, plural(w.whole), w.entry);
     }
     say(note(r), "the file is good up to byte %" PRIu64 " of %" PRIu64, w.code ? w.offset : file->known, file->length);
+    if (r->call.board.map.length)
+        note_entry(r);
+    else if (!a->code)
+        note_bare_entry(r, file);
 }
 
 static void list_kind(const char *name, struct bytes all)
@@ -140,7 +157,23 @@ static void list_kind(const char *name, struct bytes all)
     struct text kind = {NULL, 0};
     say(&kind, "%s", name);
     list_text("kind", &kind);
-    list_number("length", all.length);
+    if (all.length <= LARGEST) /* else it was read no further */
+        list_number("length", all.length);
+}
+
+/* Whether the signature field is all zeros, where the image has all of it. */
+static void list_signature(const struct call *c)
+{
+    if (c->header.length < LEAST_HEADER)
+        return;
+    uint64_t start = field(c->header.at, FIELD_HEADER_SIZE), end = start + c->signature_length, at = start;
+    if (start < LEAST_HEADER || end > c->image.length ||
+        field(c->header.at, FIELD_SIGNATURE_LENGTH) != c->signature_length)
+        return;
+    while (at < end && !c->image.at[at])
+        at++;
+    list_truth("signature_is_zero", at == end,
+               at == end ? "signature field: all zeros, so the image is not signed" : "signature field: not zero");
 }
 
 static void show_image(struct report *r)
@@ -150,6 +183,7 @@ static void show_image(struct report *r)
     c->header = own_header(c->image);
     list_header(c->header);
     c->signature_length = runnelpin_stated_signature_length(c->header.at, c->header.length);
+    list_signature(c);
     c->answer.code = judge_image(c->image, c->header, c->signature_length);
     if (!c->answer.code || c->answer.code == RUNNELPIN_IMAGE_LENGTH) {
         struct survey s = survey_blocks(c->image);
@@ -163,22 +197,45 @@ static void show_image(struct report *r)
     say(note(r), "%s", not_approved);
 }
 
+static void show_file(struct report *r)
+{
+    struct stream file = stream_of_file(r->call.image.at, r->call.image.length);
+    if (file.length > LARGEST)
+        r->call.answer.code = RUNNELPIN_ARGUMENT;
+    else if (is_like_commands(r->call.image))
+        list_commands(r, &file);
+    else
+        r->call.answer.code = RUNNELPIN_FILE_MAGIC;
+}
+
+/* A map that breaks a rule is refused before anything is shown. */
+static int take_map(struct report *r)
+{
+    const char *path = r->request->value[OPTION_MAP];
+    struct text fault = {NULL, 0};
+    if (!path)
+        return 1;
+    r->call.board.map = read_map(path);
+    if (map_total(r->call.board.map, &fault))
+        return 1;
+    r->call.answer.code = RUNNELPIN_MAP;
+    return 0;
+}
+
 int job_show(const struct request *request)
 {
     struct report r = new_report(request);
-    r.call.image = read_file(request->operand, LARGEST);
+    struct bytes *all = &r.call.image;
+    r.call.is_shown = 1;
+    *all = read_file(request->operand, LARGEST);
+    int has_sound_map = take_map(&r);
     begin_listing(request->value[OPTION_JSON] != NULL);
-    if (r.call.image.length > LARGEST) { /* and none of it was read */
-        r.call.answer.code = RUNNELPIN_ARGUMENT;
-    } else if (is_image(r.call.image)) {
-        list_kind("image", r.call.image);
+    if (is_like_image(*all) && has_sound_map) {
+        list_kind("image", *all);
         show_image(&r);
-    } else {
-        struct stream file = stream_of_file(r.call.image.at, r.call.image.length);
-        list_kind("command file", r.call.image);
-        list_commands(&r, &file);
-        if (r.call.answer.code == RUNNELPIN_FILE_MAGIC)
-            say(note(&r), "it is not an image either; images begin with 98 95 01 e6");
+    } else if (has_sound_map) {
+        list_kind(is_like_commands(*all) ? "command file" : "unknown", *all);
+        show_file(&r);
     }
     return finish(&r);
 }

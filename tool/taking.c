@@ -41,5 +41,6 @@ void give_output(struct report *r, struct bytes output)
         return;
     write_file(path, output);
     if (r->call.answer.code)
-        say(note(r), "%s has what was proved or stored before the refusal: %zu bytes", path, output.length);
+        say(note(r), "%s has what was proved or stored before the refusal: %zu byte%s", path, output.length,
+            plural(output.length));
 }

@@ -2,6 +2,7 @@
 
 #include <stdarg.h>
 #include <stdio.h>
+#include <string.h>
 
 void say(struct text *text, const char *format, ...)
 {
@@ -14,6 +15,25 @@ void say(struct text *text, const char *format, ...)
     text->length += more;
     va_end(again);
     va_end(values);
+}
+
+const char *plural(uint64_t count)
+{
+    return count == 1 ? "" : "s";
+}
+
+void say_name(struct text *text, const char *name)
+{
+    if (!strcmp(name, "-"))
+        name = "standard input";
+    for (const char *at = name; *at; at++)
+        say(text, "%c", (unsigned char)*at < ' ' || *at == 127 ? '?' : *at);
+}
+
+void say_hex(struct text *text, const uint8_t *bytes, size_t length)
+{
+    for (size_t i = 0; i < length; i++)
+        say(text, "%s%02x", i ? " " : "", bytes[i]);
 }
 
 void say_quoted(struct text *text, const uint8_t *bytes, size_t length)

@@ -11,6 +11,15 @@ struct text {
 
 void say(struct text *text, const char *format, ...) __attribute__((format(printf, 2, 3)));
 
+/* The ending of a noun behind a number: 1 byte, 2 bytes. */
+const char *plural(uint64_t count);
+
+/* The name of a file that is read, on one line: characters that don't print become question marks. */
+void say_name(struct text *text, const char *name);
+
+/* Bytes as two hexadecimal digits each, with spaces between. */
+void say_hex(struct text *text, const uint8_t *bytes, size_t length);
+
 /* Bytes of a file in quotation marks, those that don't print as \xHH, at most 64 of them. */
 void say_quoted(struct text *text, const uint8_t *bytes, size_t length);
 

@@ -36,7 +36,8 @@ fn numbers() {
         "1x",
         "0x",
         "x1",
-        "0X10",
+        "0X",
+        "0xX1",
         "1e3",
         "0b1",
         "1.",
@@ -63,7 +64,13 @@ fn numbers() {
         desk.put("list", format!("0x1000 4096\n{number} 1\n"));
         bad(&desk, "run file --map list -o out", USAGE, &part);
     }
-    for number in ["18446744073709551615", "0xffffFFFFffffffff", "0", "00096"] {
+    for number in [
+        "18446744073709551615",
+        "0xffffFFFFffffffff",
+        "0XffffFFFFffffffff",
+        "0",
+        "00096",
+    ] {
         let said = desk.run(&format!("pack file -o out --signature {number}"));
         assert_ne!(said.status, USAGE, "{said:?}");
     }
@@ -75,7 +82,7 @@ fn lists() {
     for (text, part) in [
         (
             "0x1000 4096 1\n",
-            "line 1: 3 numbers, but a region has 2: base length",
+            "runnelpin: list, line 1: 3 numbers, but a region has 2: base and length",
         ),
         ("# map\n\n0x1000\n", "line 3: 1 number, but a region has 2"),
         ("0x1000 # 4096\n", "line 1: 1 number,"),
@@ -169,9 +176,7 @@ fn headers_of_one_byte_and_images_cut_short() {
     let desk = sample::desk();
     let image = desk.get("image");
     desk.put("one", &image[..1]);
-    let part =
-        "refused: 4, approved header: it is shorter than 36 bytes, or the image does not begin \
-                with it; approved header length 1; image length ";
+    let part = "refused: 4, approved header: one has 1 byte, and a header has at least 36; ";
     for words in [
         "open image --header one -o out",
         "signature image --header one -o out",
@@ -183,7 +188,7 @@ fn headers_of_one_byte_and_images_cut_short() {
     bad(&desk, "show one", REFUSED, "refused: 16, ");
     desk.put("cut", &image[..image.len() - 1]);
     let part = format!(
-        "; image length {} instead of {}",
+        "refused: 12, image length: it is 1 byte too short: {} instead of {}",
         image.len() - 1,
         image.len()
     );

@@ -34,8 +34,10 @@ fn a_sound_image() {
     let expected = [blocks, BLOCK, SIGNATURE, HEADER].map(|n| n as u64);
     assert_eq!(numbers(header, keys), expected);
     assert_eq!(json["blocks"]["each"].text(), "1 to 4 proved");
-    assert_eq!(header["hash_1"].text(), "sha256");
-    assert_eq!(header["hash_2"].text(), "none");
+    assert_eq!(
+        numbers(header, ["hash_1", "hash_2", "hash_3", "hash_4"]),
+        [2, 0, 0, 0]
+    );
     let root: String = image[36..68].iter().map(|b| format!("{b:02x}")).collect();
     assert_eq!(header["root_hash"].text(), root);
     let keys = ["counted", "whole", "proved", "file_length", "file_proved"];
@@ -63,7 +65,9 @@ fn the_commands_of_image_and_file() {
         let offsets: Vec<u64> = program.iter().map(|c| c["offset"].number()).collect();
         assert_eq!(offsets, [8, 48, 88, 192, 214]);
         assert_eq!(numbers(&program[0], ["address", "count"]), [0x1ff0, 16]);
-        assert_eq!(numbers(&program[1], ["address", "count"]), [0x100000, 300]);
+        let keys = ["address", "count", "pattern"];
+        assert_eq!(numbers(&program[1], keys), [0x100000, 300, 0xaa]);
+        assert_eq!(program[4]["address"].number(), 0x100010);
         assert_eq!(
             numbers(&json, ["code", "commands", "entry"]),
             [0, 5, 0x100010]
@@ -73,6 +77,25 @@ fn the_commands_of_image_and_file() {
             assert!(text.contains(&format!("{:<16}  {words}\n", command["offset"].number())));
         }
     }
+}
+
+#[test]
+fn the_fields_of_a_check() {
+    let desk = Desk::new();
+    let words = [2u32, 1, 0x1234, 0xffff_ffff].map(u32::to_le_bytes);
+    let mut data = words.concat();
+    data.push(3);
+    data.resize(24, 0);
+    data.extend(b"say \"x\"\0\xff");
+    data.resize(88, 0);
+    desk.put("file", File::new().command(3, &data).entry(0).0);
+    let json = desk.run("show file --json").json();
+    let check = &json["program"].list()[0];
+    let keys = ["eax", "ecx", "register", "mask", "value"];
+    let expected = [1, 2, 3, 0xffff_ffff, 0x1234];
+    assert_eq!(numbers(check, keys), expected);
+    assert_eq!(check["text"].text(), "say \"x\"", "up to its zero byte");
+    assert!(check.get("address").is_none() && check.get("pattern").is_none());
 }
 
 /// The first refusal that the file alone decides, its place, and the commands before it.
@@ -108,7 +131,9 @@ fn damaged_command_files() {
             "{said:?}"
         );
         assert_eq!(said.status, i32::from(numbers_expected[0] != 0));
-        for command in json["program"].list() {
+        let is_file = json["kind"].text() == "command file";
+        assert_eq!(json.get("program").is_some(), is_file, "{said:?}");
+        for command in json.get("program").map_or(&[][..], Value::list) {
             command["length"].number();
         }
     }
@@ -233,11 +258,92 @@ fn an_image_of_no_commands_and_what_is_no_image() {
     assert_eq!(said.status, 1);
     assert!(said.out.contains("refused: 16, "), "{said:?}");
     assert!(said.out.contains("proved            4\n"), "{said:?}");
-    for bytes in [&b"x"[..], b"#!/bin/sh\necho\n", &[0; 200]] {
+    for bytes in [&b""[..], b"x", b"#!/bin/sh\necho\n", &[0; 200], b"^..D._.."] {
         desk.put("other", bytes);
         let said = desk.run("show other");
         assert_eq!(said.status, 1);
-        assert!(said.out.contains("it is not an image either"), "{said:?}");
+        assert!(
+            said.out.starts_with("  kind              unknown\n"),
+            "{said:?}"
+        );
+        assert!(said.out.contains(": not an image: it "), "{said:?}");
+        assert!(
+            said.out.contains("; not a command file either (one "),
+            "{said:?}"
+        );
+        let json = desk.run("show other --json").json();
+        assert_eq!(json["kind"].text(), "unknown");
+        assert_eq!(json["length"].number(), bytes.len() as u64);
+        assert!(json.get("program").is_none() && json.get("header").is_none());
+    }
+}
+
+/// Half of the magic will do: a damaged file is still what it was.
+#[test]
+fn what_is_damaged_keeps_its_kind() {
+    let desk = sample::desk();
+    for (name, kind, magic) in [("image", "image", 4), ("file", "command file", 8)] {
+        let sound = desk.get(name);
+        for at in 0..magic {
+            let mut bad = sound.clone();
+            bad[at] ^= 0xff;
+            bad[(at + 1) % magic] ^= 0xff;
+            bad[16] ^= 0xff; // the sizes don't fit, either
+            desk.put("bad", bad);
+            let said = desk.run("show bad --json");
+            assert_eq!(said.json()["kind"].text(), kind, "byte {at}: {said:?}");
+        }
+    }
+}
+
+/// The length of the first command stands where an image has its sizes, and these would fit each other.
+#[test]
+fn a_command_file_with_fitting_sizes_is_no_image() {
+    let desk = Desk::new();
+    let file = File::new().write(0x1000, &[0; 65573 - 8]).entry(0x1000);
+    desk.put("file", file.0);
+    let said = desk.run("show file");
+    assert_eq!(said.status, 0, "{said:?}");
+    assert!(said.out.contains("kind              command file\n"));
+}
+
+#[test]
+fn whether_the_signature_field_is_zero() {
+    let desk = sample::desk();
+    let zero = "\nsignature field: all zeros, so the image is not signed\n";
+    assert!(desk.run("show image").out.contains(zero));
+    let is_zero = || desk.run("show image --json").json()["signature_is_zero"].clone();
+    assert_eq!(is_zero(), Value::Word("true".to_string()));
+    let image = desk.get("image");
+    for at in HEADER..HEADER + SIGNATURE {
+        let mut signed = image.clone();
+        signed[at] = 1;
+        desk.put("image", signed);
+        assert!(desk
+            .run("show image")
+            .out
+            .contains("\nsignature field: not zero\n"));
+        assert_eq!(is_zero(), Value::Word("false".to_string()));
+    }
+    desk.put("image", &image[..HEADER + SIGNATURE - 1]);
+    let said = desk.run("show image --json");
+    assert!(said.json().get("signature_is_zero").is_none(), "{said:?}");
+}
+
+/// In text a hash has its number and its name.
+#[test]
+fn hashes_by_number_and_name() {
+    let desk = sample::desk();
+    let mut image = desk.get("image");
+    field::set(&mut image, field::IDS[1], 9);
+    desk.put("image", image);
+    let said = desk.run("show image").out;
+    for line in [
+        "  hash_1            2 (sha256)\n",
+        "  hash_2            9 (not known)\n",
+        "  hash_3            0 (none)\n",
+    ] {
+        assert!(said.contains(line), "{said}");
     }
 }
 
