@@ -2,7 +2,6 @@
 
 #include <stdarg.h>
 #include <stdio.h>
-#include <string.h>
 
 void say(struct text *text, const char *format, ...)
 {
@@ -24,8 +23,6 @@ const char *plural(uint64_t count)
 
 void say_name(struct text *text, const char *name)
 {
-    if (!strcmp(name, "-"))
-        name = "standard input";
     for (const char *at = name; *at; at++)
         say(text, "%c", (unsigned char)*at < ' ' || *at == 127 ? '?' : *at);
 }

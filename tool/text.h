@@ -14,7 +14,7 @@ void say(struct text *text, const char *format, ...) __attribute__((format(print
 /* The ending of a noun behind a number: 1 byte, 2 bytes. */
 const char *plural(uint64_t count);
 
-/* The name of a file that is read, on one line: characters that don't print become question marks. */
+/* A file's name on one line: characters that don't print become question marks. */
 void say_name(struct text *text, const char *name);
 
 /* Bytes as two hexadecimal digits each, with spaces between. */
