@@ -48,12 +48,6 @@ void json_number(const char *key, uint64_t value)
     fprintf(answers(), value > (uint64_t)1 << 53 ? "\"%" PRIu64 "\"" : "%" PRIu64, value);
 }
 
-void json_truth(const char *key, int is_true)
-{
-    begin_item(key);
-    fputs(is_true ? "true" : "false", answers());
-}
-
 void json_text(const char *key, const struct text *text)
 {
     begin_item(key);
@@ -66,4 +60,10 @@ void json_text(const char *key, const struct text *text)
             fputc(byte, answers());
     }
     fputc('"', answers());
+}
+
+void json_truth(const char *key, int is_true)
+{
+    begin_item(key);
+    fputs(is_true ? "true" : "false", answers());
 }

@@ -16,9 +16,9 @@ void json_null(const char *key);
 /* A number over 2^53 is written as a string, since readers that use floating point would round it. */
 void json_number(const char *key, uint64_t value);
 
-void json_truth(const char *key, int is_true);
-
 /* Bytes over 127 are written as the characters of that number. */
 void json_text(const char *key, const struct text *text);
+
+void json_truth(const char *key, int is_true);
 
 #endif

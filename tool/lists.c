@@ -69,13 +69,13 @@ static size_t read_numbers(struct list *list, const struct reading *r, const cha
 static void read_line(struct list *list, const struct reading *r, const char *stop)
 {
     const struct form *form = r->form;
-    size_t record = list->length / (form->numbers * form->width);
+    size_t before = list->length / (form->numbers * form->width);
     size_t count = read_numbers(list, r, stop);
     if (count && count != form->numbers)
         fail("%s, line %zu: %zu number%s, but %s has %zu: %s", r->path, r->line, count, plural(count), form->name,
              form->numbers, form->line);
     if (count)
-        list->lines[record] = r->line;
+        list->lines[before] = r->line;
 }
 
 /* The file's text, without the byte order mark that some editors put before it. */
@@ -91,14 +91,21 @@ static struct reading begin_reading(const char *path, const struct form *form)
     return (struct reading){form, path, at, end, 1};
 }
 
+/* An empty list with room for a record on each line. */
+static struct list new_list(const struct reading *r)
+{
+    size_t lines = 1;
+    for (const char *at = r->at; at < r->end; at++)
+        lines += *at == '\n';
+    return (struct list){.at = allocate(NULL, lines * r->form->numbers * r->form->width),
+                         .path = r->path,
+                         .lines = allocate(NULL, lines * sizeof(size_t))};
+}
+
 static struct list read_list(const char *path, const struct form *form)
 {
     struct reading r = begin_reading(path, form);
-    size_t lines = 1;
-    for (const char *at = r.at; at < r.end; at++)
-        lines += *at == '\n';
-    struct list list = {allocate(NULL, lines * form->numbers * form->width), 0, path,
-                        allocate(NULL, lines * sizeof *list.lines)};
+    struct list list = new_list(&r);
     for (; r.at < r.end; r.line++) {
         const char *stop = memchr(r.at, '\n', (size_t)(r.end - r.at));
         if (!stop)

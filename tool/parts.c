@@ -16,9 +16,10 @@ int job_header(const struct request *request)
     c->signature_length = runnelpin_stated_signature_length(c->header.at, c->header.length);
     c->answer.code = judge_image(c->image, c->header, c->signature_length);
     give_output(&r, c->header);
-    if (!c->answer.code)
+    if (!c->answer.code) {
         say(&r.words, "done: a header of %zu bytes", c->header.length);
-    say(note(&r), "%s", not_approved);
+        say(note(&r), "%s", not_approved);
+    }
     return finish(&r);
 }
 

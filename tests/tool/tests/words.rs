@@ -398,6 +398,8 @@ fn files(r: &mut Refusals) {
         "header README.md -o out",
         &format!("5, header magic: {none}"),
     );
+    let said = r.desk.run("header README.md -o out").out;
+    assert_eq!(said.lines().count(), 1, "no word of a header: {said}");
     r.refused(
         "open README.md --header README.md -o out",
         &format!("5, header magic: {none}"),
