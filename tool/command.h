@@ -13,9 +13,9 @@ struct command {
     uint64_t offset;  /* of its first byte in the file */
     const char *name; /* NULL for an unknown one */
     uint64_t id, length;
-    uint64_t address, count;               /* where it stores, and how many bytes */
-    int is_known;                          /* its header counts */
-    int has_address, has_count;            /* which of its parameters count */
+    uint64_t address, count;    /* where it stores, and how many bytes */
+    int is_known;               /* its header counts */
+    int has_address, has_count; /* which of its parameters count */
     int has_pattern, has_check;
     uint8_t parameters[MOST_PARAMETERS];
 };

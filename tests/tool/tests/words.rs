@@ -104,9 +104,6 @@ fn arguments(r: &mut Refusals) {
         r.refused(&format!("{load} --signature {number}"), &line);
         r.refused(&format!("pack file -o out --signature {number}"), &line);
     }
-    let said = r.desk.run(&format!("{load} --mode 33"));
-    assert_eq!((said.status, said.out.as_str()), (2, ""));
-    assert!(said.err.contains("33"), "{said:?}");
 }
 
 /// At 2^30 bytes: an image that was read no further is not said to have no signature, and a file that can
