@@ -1,17 +1,33 @@
 //! Signed for real: by GnuPG with a key made for the test, approved by gpgv, and loaded.
 
+use std::os::unix::fs::{symlink, FileTypeExt};
 use std::path::Path;
-use std::process::Command;
-use std::{env, fs};
+use std::process::{Child, Command, Stdio};
+use std::{env, fs, thread, time};
 use tool::desk::{repository, tool, Desk, Said};
 use tool::sample;
 
-/// Runs one of the repository's scripts in the folder, with the commands and the keys that are there.
-fn script(desk: &Desk, name: &str, words: &[&str]) -> Said {
-    let mut command = Command::new(repository().join("tools").join(name));
+/// A command that finds the folder's commands and keys before others.
+fn prepared(desk: &Desk, program: impl AsRef<Path>) -> Command {
+    let mut command = Command::new(program.as_ref());
     let path = format!("{}:{}", desk.path("").display(), env::var("PATH").unwrap());
-    command.args(words).env("RUNNELPIN", tool());
+    command.env("RUNNELPIN", tool()).env("LC_ALL", "C");
     command.env("PATH", path).env("GNUPGHOME", desk.path(""));
+    command
+}
+
+/// Runs one of the repository's scripts in the folder.
+fn script(desk: &Desk, name: &str, words: &[&str]) -> Said {
+    let mut command = prepared(desk, repository().join("tools").join(name));
+    command.args(words);
+    desk.start(command)
+}
+
+/// Runs a line of shell; `$tools` is the scripts' folder.
+fn shell(desk: &Desk, line: &str) -> Said {
+    let mut command = prepared(desk, "sh");
+    command.env("tools", repository().join("tools"));
+    command.args(["-c", line]);
     desk.start(command)
 }
 
@@ -33,6 +49,7 @@ fn signed() -> Desk {
     let sign = repository().join("tools/sign");
     let line = format!(
         "stat -c %a \"$GNUPGHOME\" && cp \"$GNUPGHOME/public.gpg\" . && \
+         gpg --armor --output armored --export && \
          {} 'Runnelpin demo' file signed --hash sha256,sha512 --block 200",
         sign.display()
     );
@@ -138,7 +155,7 @@ fn only_rsa_keys_sign() {
     let said = script(&desk, "with-key", &["sh", "-c", &line]);
     assert!(said.status != 0 && !desk.has("signed"), "{said:?}");
     assert!(
-        said.err.ends_with("sign: other is no RSA key\n"),
+        said.err.ends_with("sign: other is not an RSA key\n"),
         "{said:?}"
     );
 }
@@ -206,4 +223,384 @@ fn a_folder_is_no_place_for_a_header() {
     assert_ne!(approve(&desk, "signed", "folder").status, 0);
     assert_eq!(desk.names(), before);
     assert!(fs::read_dir(desk.path("folder")).unwrap().next().is_none());
+}
+
+/// A gpg with an RSA key, whose signatures are all the same.
+const GPG: &str = "#!/bin/sh
+[ \"$2\" = --list-packets ] && echo 'algo 1,' && exit
+while [ $# -gt 1 ]; do [ \"$1\" = --output ] && out=$2; shift; done
+head -c 310 /dev/zero | tr '\\000' s >\"$out\"
+";
+
+/// A gpgv that finds every signature good.
+const GPGV: &str = "#!/bin/sh
+";
+
+/// A script, its first words, and the file that it makes of them.
+struct Job {
+    script: &'static str,
+    words: [&'static str; 2],
+    options: &'static str,
+    made: &'static str,
+}
+
+const SIGN: Job = Job {
+    script: "sign",
+    words: ["key", "file"],
+    options: "--block 512",
+    made: "signed",
+};
+
+const APPROVE: Job = Job {
+    script: "approve",
+    words: ["ring", "signed"],
+    options: "",
+    made: "approved",
+};
+
+impl Job {
+    /// For the shell. The image is so short that a pipe takes it before somebody reads.
+    fn line(&self, target: &str) -> String {
+        let ([first, second], options) = (self.words, self.options);
+        format!(
+            "\"$tools/{}\" {first} {second} {target} {options}",
+            self.script
+        )
+    }
+
+    fn run(&self, desk: &Desk, target: &str) -> Said {
+        shell(desk, &self.line(target))
+    }
+
+    fn start(&self, desk: &Desk, before: &str) -> Child {
+        let mut command = prepared(desk, "sh");
+        let line = format!("{before} exec {}", self.line("target"));
+        command.args(["-c", &line]).current_dir(desk.path(""));
+        command.env("tools", repository().join("tools"));
+        command.env("TMPDIR", desk.path("tmp")).stdin(Stdio::null());
+        command.stdout(Stdio::null()).stderr(Stdio::null());
+        command.spawn().unwrap()
+    }
+}
+
+/// The sample with stand-ins for GnuPG, and what each job makes in a plain file.
+fn stand_ins() -> Desk {
+    let desk = sample::desk();
+    put_command(&desk, "gpg", GPG);
+    put_command(&desk, "gpgv", GPGV);
+    desk.put("ring", "a key");
+    fs::create_dir(desk.path("tmp")).unwrap();
+    for job in [SIGN, APPROVE] {
+        let said = job.run(&desk, job.made);
+        assert_eq!(said.status, 0, "{said:?}");
+        let words = format!("{}: {}", job.made, job.made);
+        assert!(said.out.starts_with(&words), "{said:?}");
+    }
+    desk
+}
+
+fn folder_is_empty(desk: &Desk, name: &str) -> bool {
+    fs::read_dir(desk.path(name)).unwrap().next().is_none()
+}
+
+#[test]
+fn a_link_still_leads_to_its_store() {
+    let desk = stand_ins();
+    symlink("store", desk.path("link")).unwrap();
+    for job in [SIGN, APPROVE] {
+        desk.put("store", "old");
+        let said = job.run(&desk, "link");
+        assert_eq!(said.status, 0, "{said:?}");
+        let target = fs::read_link(desk.path("link"));
+        assert_eq!(target.unwrap(), Path::new("store"));
+        assert_eq!(desk.get("store"), desk.get(job.made));
+    }
+}
+
+#[test]
+fn a_pipe_gets_the_bytes_and_stays() {
+    let desk = stand_ins();
+    for job in [SIGN, APPROVE] {
+        let said = shell(
+            &desk,
+            &format!(
+                "rm -f pipe; mkfifo pipe; exec 3<>pipe; {} || exit
+                dd if=pipe of=got iflag=nonblock bs=65536 count=1 status=none",
+                job.line("pipe")
+            ),
+        );
+        assert_eq!(said.status, 0, "{said:?}");
+        assert_eq!(desk.get("got"), desk.get(job.made));
+        let about = fs::symlink_metadata(desk.path("pipe")).unwrap();
+        assert!(about.file_type().is_fifo(), "{}", job.script);
+    }
+}
+
+#[test]
+fn a_device_stays() {
+    let desk = stand_ins();
+    if shell(&desk, "mknod null c 1 3 && echo >null").status != 0 {
+        return; // not allowed here
+    }
+    for job in [SIGN, APPROVE] {
+        let said = job.run(&desk, "null");
+        assert_eq!(said.status, 0, "{said:?}");
+        let about = fs::symlink_metadata(desk.path("null")).unwrap();
+        assert!(about.file_type().is_char_device(), "{}", job.script);
+    }
+}
+
+#[test]
+fn a_users_own_unfinished_file_stays() {
+    let desk = stand_ins();
+    desk.put("target.unfinished", "mine");
+    let before = desk.names();
+    for job in [SIGN, APPROVE] {
+        let said = job.run(&desk, "target");
+        assert_eq!(said.status, 0, "{said:?}");
+        assert_eq!(desk.get("target"), desk.get(job.made));
+        assert_eq!(desk.get("target.unfinished"), b"mine");
+        fs::remove_file(desk.path("target")).unwrap();
+        assert_eq!(desk.names(), before);
+    }
+}
+
+/// A mv that waits for a second one, so that what both would move is there at once.
+const MV: &str = "#!/bin/sh
+echo >>moves
+try=0
+while [ $(wc -l <moves) -lt 2 ] && [ $((try += 1)) -le 100 ]; do sleep 0.1; done
+command -p mv \"$@\"
+";
+
+#[test]
+fn two_at_once_make_a_whole_file() {
+    let desk = stand_ins();
+    put_command(&desk, "mv", MV);
+    desk.put("other", sample::file().entry(9).0);
+    let said = shell(&desk, "\"$tools/sign\" key other other-signed --block 77");
+    assert_eq!(said.status, 0, "{said:?}");
+    let _ = fs::remove_file(desk.path("moves"));
+    let line = format!(
+        "\"$tools/sign\" key other target --block 77 & {} || exit; wait $!",
+        SIGN.line("target")
+    );
+    let said = shell(&desk, &line);
+    assert_eq!(said.status, 0, "{said:?}");
+    let either = [desk.get("signed"), desk.get("other-signed")];
+    assert!(either.contains(&desk.get("target")));
+}
+
+/// By the descriptor, so that a log is appended to; and then the script's words are elsewhere.
+#[test]
+fn standard_output_gets_the_bytes_alone() {
+    let desk = stand_ins();
+    for job in [SIGN, APPROVE] {
+        let made = desk.get(job.made);
+        for target in ["-", "/dev/stdout", "/dev/fd/1"] {
+            let said = shell(&desk, &format!("{} | cat >got", job.line(target)));
+            assert_eq!(desk.get("got"), made, "{target}: {said:?}");
+            let words = format!("{}: {}", job.script, job.made);
+            assert!(said.err.starts_with(&words), "{said:?}");
+            desk.put("got", "log\n");
+            shell(&desk, &format!("{} >>got", job.line(target)));
+            assert_eq!(desk.get("got"), [b"log\n", &made[..]].concat(), "{target}");
+        }
+    }
+    assert!(!desk.has("-"));
+}
+
+#[test]
+fn a_pipe_is_read_once() {
+    let desk = stand_ins();
+    for job in [SIGN, APPROVE] {
+        let words = [job.words[0], "/dev/stdin"];
+        let line = Job { words, ..job }.line("got");
+        let said = shell(&desk, &format!("cat {} | {line}", job.words[1]));
+        assert_eq!(said.status, 0, "{said:?}");
+        assert_eq!(desk.get("got"), desk.get(job.made));
+    }
+}
+
+/// A gpg or gpgv that waits until it is told to go on, for a minute at most.
+const WAITING: &str = "#!/bin/sh
+echo >started
+try=0
+while [ ! -e go ] && [ $((try += 1)) -le 600 ]; do sleep 0.1; done
+echo >went-on
+";
+
+/// Starts the job, and waits until it is in gpg or gpgv.
+fn start_waiting(desk: &Desk, job: &Job, before: &str) -> Child {
+    let name = if job.script == "sign" { "gpg" } else { "gpgv" };
+    put_command(desk, name, WAITING);
+    let child = job.start(desk, before);
+    while !desk.has("started") {
+        thread::sleep(time::Duration::from_millis(20));
+    }
+    child
+}
+
+fn send(desk: &Desk, signal: &str, child: &Child) {
+    let said = desk.shell(&format!("kill -{signal} {}", child.id()));
+    assert_eq!(said.status, 0, "{said:?}");
+}
+
+#[test]
+fn a_signal_ends_it_at_once_and_the_work_folder_goes() {
+    for job in [SIGN, APPROVE] {
+        for (signal, status) in [("HUP", 129), ("INT", 130), ("TERM", 143)] {
+            let desk = stand_ins();
+            let mut child = start_waiting(&desk, &job, "");
+            assert!(!folder_is_empty(&desk, "tmp"));
+            send(&desk, signal, &child);
+            let found = child.wait().unwrap().code();
+            let went_on = desk.has("went-on");
+            desk.put("go", "");
+            assert_eq!(found, Some(status), "{}, {signal}", job.script);
+            assert!(!went_on, "{}, {signal}", job.script);
+            assert!(folder_is_empty(&desk, "tmp"), "{}, {signal}", job.script);
+            assert!(!desk.has("target"));
+        }
+    }
+}
+
+#[test]
+fn an_ignored_signal_stays_ignored() {
+    let desk = stand_ins();
+    let mut child = start_waiting(&desk, &APPROVE, "trap '' HUP;");
+    send(&desk, "HUP", &child);
+    desk.put("go", "");
+    assert_eq!(child.wait().unwrap().code(), Some(0));
+    assert_eq!(desk.get("target"), desk.get("approved"));
+    assert!(folder_is_empty(&desk, "tmp"));
+}
+
+#[test]
+fn the_work_folder_goes_where_nobody_reads_the_words() {
+    let desk = stand_ins();
+    for job in [SIGN, APPROVE] {
+        let line = format!(
+            "export TMPDIR=\"$PWD/tmp\"; rm -f pipe; mkfifo pipe; exec 3<>pipe 4>pipe 3<&-; {} >&4",
+            job.line("target")
+        );
+        let said = shell(&desk, &line);
+        assert_eq!(said.status, 128 + 13, "{said:?}");
+        assert!(folder_is_empty(&desk, "tmp"), "{}", job.script);
+    }
+}
+
+/// Nothing is approved, and the script's own words come first; gpgv's or the tool's may be among the others.
+fn refuses(desk: &Desk, keyring: &str, image: &str, words: &str, others: &str) {
+    let said = script(desk, "approve", &[keyring, image, "approved"]);
+    assert_eq!(said.status, 1, "{said:?}");
+    assert_eq!(said.out, "", "{said:?}");
+    assert!(!desk.has("approved"), "{said:?}");
+    let words = format!("approve: {words}");
+    assert!(said.err.lines().any(|line| line == words), "{said:?}");
+    assert!(said.err.contains(others), "{said:?}");
+}
+
+#[test]
+fn refused_in_its_own_words_keyring() {
+    let desk = signed();
+    desk.put("empty", "");
+    fs::create_dir(desk.path("folder")).unwrap();
+    refuses(
+        &desk,
+        "nothing",
+        "signed",
+        "there is no keyring nothing",
+        "",
+    );
+    refuses(&desk, "empty", "signed", "the keyring empty is empty", "");
+    refuses(
+        &desk,
+        "folder",
+        "signed",
+        "the keyring folder can't be read",
+        "Is a directory",
+    );
+    refuses(
+        &desk,
+        "armored",
+        "signed",
+        "armored is ASCII-armored; gpgv needs a binary keyring: gpg --dearmor <armored >keyring.gpg",
+        "",
+    );
+    // And that is what helps.
+    let said = shell(
+        &desk,
+        "gpg --dearmor <armored >keyring.gpg && \"$tools/approve\" keyring.gpg signed approved",
+    );
+    assert_eq!(said.status, 0, "{said:?}");
+}
+
+#[test]
+fn refused_in_its_own_words_image() {
+    let desk = signed();
+    let ring = "public.gpg";
+    desk.put("none", "no image\n");
+    let image = desk.get("signed");
+    desk.put("short", &image[..image.len() - 1]);
+    let words = "nothing can't be read";
+    refuses(&desk, ring, "nothing", words, "No such file");
+    for name in ["none", "short"] {
+        let words = format!("{name} is not a whole image");
+        refuses(&desk, ring, name, &words, &format!("runnelpin: {name}: "));
+    }
+    let zeros = "image is not signed: its signature field is all zeros";
+    refuses(&desk, ring, "image", zeros, "");
+}
+
+#[test]
+fn refused_in_its_own_words_signature() {
+    let (desk, other) = (signed(), signed());
+    desk.put("other.gpg", other.get("public.gpg"));
+    let (header, signature) = (36 + 32 + 64, 310);
+    let mut image = desk.get("signed");
+    image[40] ^= 1; // of the root hash
+    desk.put("changed", &image);
+    image[40] ^= 1;
+    image[header + 1] = 0; // of the packet's length, 307
+    desk.put("cut", &image);
+    image[header..header + signature].fill(b'?');
+    desk.put("text", &image);
+    let words = "the signature in changed is bad: it does not fit this header";
+    refuses(&desk, "public.gpg", "changed", words, "gpgv: BAD signature");
+    let words = "the signature in signed is by a key that is not in other.gpg";
+    refuses(
+        &desk,
+        "other.gpg",
+        "signed",
+        words,
+        "gpgv: Can't check signature",
+    );
+    for name in ["cut", "text"] {
+        let words = format!("the signature field of {name} does not hold a whole, valid signature");
+        refuses(&desk, "public.gpg", name, &words, "gpgv: ");
+    }
+}
+
+/// Nothing is made; the first line that is the script's own.
+fn cant_sign(desk: &Desk, words: &[&str], status: i32) -> String {
+    let said = script(desk, "sign", words);
+    assert_eq!(said.status, status, "{said:?}");
+    assert!(said.out.is_empty() && !desk.has("new"), "{said:?}");
+    said.err
+}
+
+#[test]
+fn what_cant_be_signed() {
+    let desk = stand_ins();
+    desk.put("empty", "");
+    let err = cant_sign(&desk, &["key", "nothing", "new"], 1);
+    assert!(err.ends_with("\nsign: nothing can't be read\n"), "{err}");
+    let err = cant_sign(&desk, &["key", "empty", "new"], 1);
+    assert!(err.contains("refused: 28, "), "{err}");
+    let err = cant_sign(&desk, &["key", "file", "new", "--blok", "512"], 2);
+    assert!(err.contains("--blok"), "{err}");
+    put_command(&desk, "gpg", "#!/bin/sh\nexit 2\n");
+    let err = cant_sign(&desk, &["nobody", "file", "new"], 1);
+    assert_eq!(err, "sign: gpg made no signature with the key nobody\n");
 }
