@@ -490,6 +490,21 @@ fn the_work_folder_goes_where_nobody_reads_the_words() {
     }
 }
 
+/// An apt-get that has the script which started it ended.
+const ENDING: &str = "#!/bin/sh
+kill -TERM $PPID
+";
+
+#[test]
+fn what_installs_leaves_nothing_when_it_is_ended() {
+    let desk = stand_ins();
+    put_command(&desk, "apt-get", ENDING);
+    let line = "TMPDIR=\"$PWD/tmp\" \"$tools/need\" no-such-command package; exit $?";
+    let said = shell(&desk, line);
+    assert_eq!(said.status, 128 + 15, "{said:?}");
+    assert!(folder_is_empty(&desk, "tmp"));
+}
+
 /// Nothing is approved, and the script's own words come first; gpgv's or the tool's may be among the others.
 fn refuses(desk: &Desk, keyring: &str, image: &str, words: &str, others: &str) {
     let said = script(desk, "approve", &[keyring, image, "approved"]);
@@ -603,4 +618,30 @@ fn what_cant_be_signed() {
     put_command(&desk, "gpg", "#!/bin/sh\nexit 2\n");
     let err = cant_sign(&desk, &["nobody", "file", "new"], 1);
     assert_eq!(err, "sign: gpg made no signature with the key nobody\n");
+}
+
+/// README's lines as they stand, with keys that have no passphrase.
+#[test]
+fn readmes_lines_sign_and_approve() {
+    let desk = sample::desk();
+    desk.put("route.csl", desk.get("file"));
+    symlink(repository().join("tools"), desk.path("tools")).unwrap();
+    let readme = fs::read_to_string(repository().join("README.md")).unwrap();
+    let (_, text) = readme.split_once("\n## Signing and approving\n").unwrap();
+    let (text, _) = text.split_once("\n## ").unwrap();
+    let lines: Vec<&str> = text
+        .lines()
+        .filter_map(|l| l.strip_prefix("    "))
+        .collect();
+    assert_eq!(lines.len(), 4);
+    desk.put("lines", lines.join("\n"));
+    let conf = "echo batch; echo pinentry-mode loopback; echo passphrase-file /dev/null";
+    let line = format!("{{ {conf}; }} >\"$GNUPGHOME/gpg.conf\" && sh -e ./lines");
+    let said = script(&desk, "with-key", &["sh", "-c", &line]);
+    assert_eq!(said.status, 0, "{said:?}");
+    assert_eq!(desk.get("route.header"), desk.get("route.sbs")[..68]);
+    assert!(
+        said.err.contains("Good signature from \"Workshop\""),
+        "{said:?}"
+    );
 }
