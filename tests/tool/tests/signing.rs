@@ -272,9 +272,10 @@ impl Job {
         shell(desk, &self.line(target))
     }
 
-    fn start(&self, desk: &Desk, before: &str) -> Child {
+    /// Under what `env` says of signals: which are ignored differs with how the tests are started.
+    fn start(&self, desk: &Desk, signals: &str) -> Child {
         let mut command = prepared(desk, "sh");
-        let line = format!("{before} exec {}", self.line("target"));
+        let line = format!("exec env {signals} {}", self.line("target"));
         command.args(["-c", &line]).current_dir(desk.path(""));
         command.env("tools", repository().join("tools"));
         command.env("TMPDIR", desk.path("tmp")).stdin(Stdio::null());
@@ -411,14 +412,19 @@ fn standard_output_gets_the_bytes_alone() {
 }
 
 #[test]
-fn a_pipe_is_read_once() {
+fn standard_input_is_read_once() {
     let desk = stand_ins();
     for job in [SIGN, APPROVE] {
-        let words = [job.words[0], "/dev/stdin"];
-        let line = Job { words, ..job }.line("got");
-        let said = shell(&desk, &format!("cat {} | {line}", job.words[1]));
-        assert_eq!(said.status, 0, "{said:?}");
-        assert_eq!(desk.get("got"), desk.get(job.made));
+        for name in ["-", "/dev/stdin"] {
+            let words = [job.words[0], name];
+            let line = Job { words, ..job }.line("got");
+            let input = job.words[1];
+            for line in [format!("cat {input} | {line}"), format!("{line} <{input}")] {
+                let said = shell(&desk, &line);
+                assert_eq!(said.status, 0, "{line}: {said:?}");
+                assert_eq!(desk.get("got"), desk.get(job.made), "{line}");
+            }
+        }
     }
 }
 
@@ -431,11 +437,12 @@ echo >went-on
 ";
 
 /// Starts the job, and waits until it is in gpg or gpgv.
-fn start_waiting(desk: &Desk, job: &Job, before: &str) -> Child {
+fn start_waiting(desk: &Desk, job: &Job, signals: &str) -> Child {
     let name = if job.script == "sign" { "gpg" } else { "gpgv" };
     put_command(desk, name, WAITING);
-    let child = job.start(desk, before);
+    let mut child = job.start(desk, signals);
     while !desk.has("started") {
+        assert!(child.try_wait().unwrap().is_none(), "ended too soon");
         thread::sleep(time::Duration::from_millis(20));
     }
     child
@@ -451,7 +458,7 @@ fn a_signal_ends_it_at_once_and_the_work_folder_goes() {
     for job in [SIGN, APPROVE] {
         for (signal, status) in [("HUP", 129), ("INT", 130), ("TERM", 143)] {
             let desk = stand_ins();
-            let mut child = start_waiting(&desk, &job, "");
+            let mut child = start_waiting(&desk, &job, "--default-signal");
             assert!(!folder_is_empty(&desk, "tmp"));
             send(&desk, signal, &child);
             let found = child.wait().unwrap().code();
@@ -468,7 +475,7 @@ fn a_signal_ends_it_at_once_and_the_work_folder_goes() {
 #[test]
 fn an_ignored_signal_stays_ignored() {
     let desk = stand_ins();
-    let mut child = start_waiting(&desk, &APPROVE, "trap '' HUP;");
+    let mut child = start_waiting(&desk, &APPROVE, "--ignore-signal=HUP");
     send(&desk, "HUP", &child);
     desk.put("go", "");
     assert_eq!(child.wait().unwrap().code(), Some(0));
