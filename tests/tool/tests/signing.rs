@@ -599,7 +599,7 @@ fn refused_in_its_own_words_signature() {
         "gpgv: Can't check signature",
     );
     for name in ["cut", "text"] {
-        let words = format!("the signature field of {name} does not hold a whole, valid signature");
+        let words = format!("gpgv finds no whole, valid signature in {name}");
         refuses(&desk, "public.gpg", name, &words, "gpgv: ");
     }
 }
@@ -622,6 +622,10 @@ fn what_cant_be_signed() {
     assert!(err.contains("refused: 28, "), "{err}");
     let err = cant_sign(&desk, &["key", "file", "new", "--blok", "512"], 2);
     assert!(err.contains("--blok"), "{err}");
+    let said = shell(&desk, "RUNNELPIN=./no-tool \"$tools/sign\" key file new");
+    assert_eq!(said.status, 1, "{said:?}");
+    let words = "sign: ./no-tool is missing (";
+    assert!(said.err.starts_with(words), "{said:?}");
     put_command(&desk, "gpg", "#!/bin/sh\nexit 2\n");
     let err = cant_sign(&desk, &["nobody", "file", "new"], 1);
     assert_eq!(err, "sign: gpg made no signature with the key nobody\n");
