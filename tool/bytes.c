@@ -5,12 +5,18 @@
 
 #include <inttypes.h>
 #include <stdlib.h>
+#include <string.h>
 #include <sys/mman.h>
 
 void put_little(uint8_t *at, size_t width, uint64_t value)
 {
     for (size_t i = 0; i < width; i++)
         at[i] = (uint8_t)(value >> 8 * i);
+}
+
+int is_zero(const uint8_t *at, size_t length)
+{
+    return !length || (!*at && !memcmp(at, at + 1, length - 1));
 }
 
 void *allocate(void *old, size_t length)

@@ -11,6 +11,9 @@ struct bytes {
 
 void put_little(uint8_t *at, size_t width, uint64_t value);
 
+/* Whether all of them are zero. */
+int is_zero(const uint8_t *at, size_t length);
+
 /* Memory that is never given back: the tool does one job and ends. */
 void *allocate(void *old, size_t length);
 

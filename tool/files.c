@@ -1,150 +1,143 @@
-#define _DEFAULT_SOURCE /* mkstemp, realpath, fchmod */
+#define _DEFAULT_SOURCE /* S_ISREG, fcntl */
 #include "files.h"
 
 #include "fail.h"
-#include "text.h"
+#include "progress.h"
 
 #include <errno.h>
 #include <fcntl.h>
-#include <signal.h>
-#include <stdio.h>
-#include <stdlib.h>
+#include <poll.h>
 #include <string.h>
-#include <sys/stat.h>
 #include <unistd.h>
 
-static struct totals totals;
+const char standard_input[] = "standard input", standard_output[] = "standard output";
 
-struct totals file_totals(void)
+enum { CHUNK = 1 << 16, BEGINNING = 1 << 20 };
+
+/* A file that is open to be read. */
+struct input {
+    const char *path;
+    int file;
+    uint64_t size; /* what is left to be read of a regular file; 0 where that isn't known */
+};
+
+void hold_standard_files(void)
 {
-    return totals;
+    for (int file = STDIN_FILENO; file <= STDERR_FILENO; file++)
+        if (fcntl(file, F_GETFD) < 0 && open("/dev/null", file == STDIN_FILENO ? O_WRONLY : O_RDONLY) != file)
+            fail("/dev/null: can't be opened: %s", strerror(errno));
+}
+
+int is_one_file(const struct stat *one, const struct stat *other)
+{
+    return one->st_dev == other->st_dev && one->st_ino == other->st_ino;
+}
+
+int can_try_again(int file, short event)
+{
+    struct pollfd ready = {file, event, 0};
+    if (errno == EAGAIN) /* a standard file may be set so by others */
+        poll(&ready, 1, -1);
+    return errno == EINTR || errno == EAGAIN;
+}
+
+static uint64_t lesser(uint64_t one, uint64_t other)
+{
+    return one < other ? one : other;
+}
+
+static void cant_read(const struct input *input)
+{
+    fail("%s: can't be read: %s", input->path, strerror(errno));
+}
+
+static struct input open_input(const char *path)
+{
+    struct stat about;
+    begin_reading(path, 0); /* to open a pipe is to wait for its writer */
+    struct input input = {path, path == standard_input ? STDIN_FILENO : open(path, O_RDONLY), 0};
+    if (input.file < 0 || fstat(input.file, &about))
+        cant_read(&input);
+    off_t at = S_ISREG(about.st_mode) ? lseek(input.file, 0, SEEK_CUR) : -1;
+    if (at >= 0 && at < about.st_size)
+        input.size = (uint64_t)(about.st_size - at);
+    begin_reading(path, input.size);
+    return input;
+}
+
+static void close_input(const struct input *input)
+{
+    if (input->file != STDIN_FILENO)
+        close(input->file);
+    end_step();
+}
+
+/* Reads up to `length` bytes, 0 at the end of the file. */
+static size_t read_some(const struct input *input, uint8_t *at, uint64_t length)
+{
+    ssize_t got;
+    do
+        got = read(input->file, at, lesser(length, BEGINNING));
+    while (got < 0 && can_try_again(input->file, POLLIN));
+    if (got < 0)
+        cant_read(input);
+    count_bytes((uint64_t)got);
+    return (size_t)got;
 }
 
 /* Reads to the end, or to one byte over `most`. */
-static struct bytes read_all(int file, const char *path, uint64_t most, uint64_t first)
+static struct bytes read_all(const struct input *input, uint64_t most)
 {
     struct bytes all = {NULL, 0};
     uint64_t room = 0;
-    ssize_t got;
+    size_t got;
     do {
         if (all.length == room) {
-            room = room ? 2 * room : first;
-            room = room <= most ? room : most + 1;
+            room = lesser(room ? 2 * room : input->size + CHUNK, most + 1);
             all.at = allocate(all.at, room);
         }
-        got = read(file, all.at + all.length, room - all.length);
-        if (got > 0)
-            all.length += (size_t)got;
-    } while (got > 0 && all.length <= most);
-    if (got < 0)
-        fail("%s: can't be read: %s", path, strerror(errno));
+        got = read_some(input, all.at + all.length, room - all.length);
+        all.length += got;
+    } while (got && all.length <= most);
     return all;
+}
+
+/* Reads to the end, or to one byte over `most`, and keeps what the room takes. Zeros are there already. */
+static uint64_t keep_in(struct bytes room, const struct input *input, uint64_t most)
+{
+    static uint8_t chunk[CHUNK];
+    uint64_t done = 0;
+    size_t got;
+    do {
+        got = read_some(input, chunk, lesser(most + 1 - done, CHUNK));
+        size_t kept = (size_t)lesser(done < room.length ? room.length - done : 0, got);
+        if (!is_zero(chunk, kept)) /* a page of zeros stays untouched, so a hole stays one */
+            memcpy(room.at + done, chunk, kept);
+        done += got;
+    } while (got && done <= most);
+    return done;
 }
 
 struct bytes read_file(const char *path, uint64_t most)
 {
-    struct stat about;
-    int file = open(path, O_RDONLY);
-    if (file < 0 || fstat(file, &about))
-        fail("%s: can't be read: %s", path, strerror(errno));
-    uint64_t size = S_ISREG(about.st_mode) ? (uint64_t)about.st_size : 65536;
-    struct bytes all = size > most ? zeros(most + 1) : read_all(file, path, most, size + 1);
-    if (size > most && read(file, all.at, most < 1 << 20 ? most : 1 << 20) < 0) /* enough for a header */
-        fail("%s: can't be read: %s", path, strerror(errno));
-    close(file);
-    totals.read += all.length;
+    struct input input = open_input(path);
+    struct bytes all;
+    if (input.size > most) {
+        all = zeros(most + 1);
+        keep_in(all, &input, lesser(most, BEGINNING - 1));
+    } else {
+        all = read_all(&input, most);
+    }
+    close_input(&input);
     return all;
 }
 
-/* The new file that isn't renamed yet: a signal that ends the tool removes it. */
-static char *volatile unfinished;
-
-static void stop(int number)
+uint64_t read_into(struct bytes room, const char *path, uint64_t most)
 {
-    if (unfinished)
-        unlink(unfinished);
-    signal(number, SIG_DFL);
-    raise(number);
-}
-
-static int is_zero(const uint8_t *at, size_t length)
-{
-    return !*at && !memcmp(at, at + 1, length - 1);
-}
-
-/* 0 when all is written; a page of zeros is skipped in a new file. */
-static int put(int file, struct bytes content, int is_new)
-{
-    const size_t page = 65536;
-    for (size_t at = 0; at < content.length;) {
-        size_t length = content.length - at < page ? content.length - at : page;
-        ssize_t done = (ssize_t)length;
-        if (is_new && is_zero(content.at + at, length)) {
-            if (lseek(file, done, SEEK_CUR) < 0)
-                return -1;
-        } else {
-            done = write(file, content.at + at, length);
-        }
-        if (done < 0 && errno != EINTR)
-            return -1;
-        if (done > 0)
-            at += (size_t)done;
-    }
-    totals.written += content.length;
-    return is_new ? ftruncate(file, (off_t)content.length) : 0;
-}
-
-static void cant_write(const char *path)
-{
-    fail("%s: can't be written: %s", path, strerror(errno));
-}
-
-/* `target` is the file itself, where `path` may be a link to it. */
-static void replace(const char *path, const char *target, struct bytes content, mode_t mode)
-{
-    const char *name = strrchr(target, '/');
-    struct text beside = {NULL, 0};
-    say(&beside, "%.*s.runnelpin-XXXXXX", name ? (int)(name + 1 - target) : 0, target);
-    unfinished = beside.at;
-    int file = mkstemp(beside.at);
-    if (file < 0)
-        fail("%s: can't create a file beside it: %s", path, strerror(errno));
-    if (put(file, content, 1) || fchmod(file, mode) || fsync(file) || close(file) || rename(beside.at, target)) {
-        int reason = errno;
-        unlink(beside.at);
-        unfinished = NULL;
-        errno = reason;
-        cant_write(path);
-    }
-    unfinished = NULL;
-}
-
-static void write_directly(const char *path, struct bytes content)
-{
-    int file = open(path, O_WRONLY);
-    if (file < 0 || put(file, content, 0) || close(file))
-        cant_write(path);
-}
-
-void write_file(const char *path, struct bytes content)
-{
-    static const int ending[] = {SIGINT, SIGTERM, SIGHUP, SIGQUIT};
-    for (size_t i = 0; i < sizeof ending / sizeof *ending; i++)
-        signal(ending[i], stop);
-    signal(SIGXFSZ, SIG_IGN); /* a file over the size limit is an error like any other */
-    struct stat old;
-    if (stat(path, &old)) {
-        if (errno != ENOENT || !lstat(path, &old)) /* a link to nothing is left alone */
-            cant_write(path);
-        mode_t mask = umask(0);
-        umask(mask);
-        replace(path, path, content, 0666 & ~mask);
-    } else if (S_ISREG(old.st_mode)) {
-        char *target = realpath(path, NULL);
-        if (!target || access(target, W_OK))
-            cant_write(path);
-        replace(path, target, content, old.st_mode & 07777);
-    } else {
-        write_directly(path, content);
-    }
+    struct input input = open_input(path);
+    uint64_t length = lesser(input.size, most + 1);
+    if (!input.size || (room.at && length == room.length))
+        length = keep_in(room, &input, most);
+    close_input(&input);
+    return length;
 }

@@ -1,26 +1,34 @@
-/* Files read whole, and written so that no half-written one is left. */
+/* Files read, by the names that a command line has for them. */
 #ifndef FILES_H
 #define FILES_H
 
 #include "bytes.h"
 
+#include <sys/stat.h>
+
+/* What `-` is called from here on. A path is one of these by its address: a file may have such a name, too. */
+extern const char standard_input[], standard_output[];
+
+/* Holds descriptors 0 to 2 where they are closed, so that no file takes their place; using one is an error still. */
+void hold_standard_files(void);
+
+/* Whether both are of the same file, pipe, socket or device, whatever it is called. */
+int is_one_file(const struct stat *one, const struct stat *other);
+
+/* After a read or write that failed: whether it can be tried again, once the file is ready where that was amiss. */
+int can_try_again(int file, short event);
+
 /*
- * The bytes of a file, pipe or device. A longer one than `most` is only seen to be longer: it gives
- * `most` + 1 bytes, whichever.
+ * The bytes of a file, pipe or device. One longer than `most` gives `most` + 1 bytes: they begin with its own, at
+ * least 1 MiB of them, and the rest may be zeros. Files are read and never mapped: a mapped one could change
+ * between the proof of a block and its use.
  */
 struct bytes read_file(const char *path, uint64_t most);
 
 /*
- * Writes a new file beside the target and renames it at the end; writes to a device or a pipe directly.
- * Whole pages of zeros become holes of a new file.
+ * The length of a file, `most` + 1 where it is longer. Its bytes are put into the room if there is one and they
+ * fill it; where a regular file's size tells that they don't, or there is none, it isn't read.
  */
-void write_file(const char *path, struct bytes content);
-
-/* The bytes read and written so far. */
-struct totals {
-    uint64_t read, written;
-};
-
-struct totals file_totals(void);
+uint64_t read_into(struct bytes room, const char *path, uint64_t most);
 
 #endif

@@ -1,5 +1,7 @@
 #include "image.h"
 
+#include "progress.h"
+
 #include <inttypes.h>
 #include <string.h>
 
@@ -123,8 +125,10 @@ struct runnelpin_answer open_image(struct bytes image, struct bytes header, uint
                                    struct bytes file)
 {
     struct runnelpin_answer answer;
+    begin_call("proving", image.length);
     runnelpin_open(image.at, image.length, header.at, header.length, signature_length, file.at, file.length,
                    (uint8_t *)&answer, sizeof answer);
+    end_step();
     return answer;
 }
 

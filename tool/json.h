@@ -16,9 +16,12 @@ void json_null(const char *key);
 /* A number over 2^53 is written as a string, since readers that use floating point would round it. */
 void json_number(const char *key, uint64_t value);
 
-/* Bytes over 127 are written as the characters of that number. */
+/* What is no UTF-8 is written as U+FFFD. */
 void json_text(const char *key, const struct text *text);
 
 void json_truth(const char *key, int is_true);
+
+/* The outermost object begins with this file's name. */
+void json_begin_with(const char *file);
 
 #endif

@@ -1,11 +1,8 @@
-#define _DEFAULT_SOURCE /* clock_gettime, isatty */
 #include "files.h"
 #include "jobs.h"
-
-#include <inttypes.h>
-#include <stdio.h>
-#include <time.h>
-#include <unistd.h>
+#include "print.h"
+#include "progress.h"
+#include "settle.h"
 
 #define RUNNING (TAKES(OUTPUT) | TAKES(CPUID) | TAKES(MODE) | TAKES(MEMORY) | TAKES(PARTIAL) | TAKES(JSON))
 
@@ -29,22 +26,14 @@ static const struct job jobs[] = {
      "copy a file; the copy gets its name only when it is complete", "route.sbs -o outbox/route.sbs"},
 };
 
-static double seconds(void)
-{
-    struct timespec now;
-    clock_gettime(CLOCK_MONOTONIC, &now);
-    return (double)now.tv_sec + (double)now.tv_nsec / 1e9;
-}
-
 int main(int argc, char **argv)
 {
-    double began = seconds();
+    begin_work();
+    hold_standard_files();
+    end_answer_at_exit();
     struct request request = read_request(argv + (argc > 0), jobs, sizeof jobs / sizeof *jobs);
+    settle_files(&request);
     int status = request.job->run(&request);
-    double spent = seconds() - began;
-    if (spent > 1 && isatty(STDERR_FILENO)) {
-        struct totals bytes = file_totals();
-        fprintf(stderr, "%.1f s, %" PRIu64 " bytes read, %" PRIu64 " written\n", spent, bytes.read, bytes.written);
-    }
+    end_work();
     return status;
 }

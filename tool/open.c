@@ -1,5 +1,6 @@
 #include "image.h"
 #include "jobs.h"
+#include "output.h"
 #include "taking.h"
 
 int job_open(const struct request *request)
@@ -10,7 +11,7 @@ int job_open(const struct request *request)
     take_image(&r);
     c->answer.code = judge_image(c->image, c->header, c->signature_length);
     if (!c->answer.code) {
-        file = zeros(stream_of_image(c->image.at).length);
+        file = output_room(stream_of_image(c->image.at).length);
         c->answer = open_image(c->image, c->header, c->signature_length, file);
         file.length = c->answer.stored;
     }

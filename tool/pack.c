@@ -2,7 +2,9 @@
 #include "files.h"
 #include "image.h"
 #include "jobs.h"
-#include "report.h"
+#include "output.h"
+#include "progress.h"
+#include "taking.h"
 
 #include <inttypes.h>
 #include <string.h>
@@ -25,8 +27,11 @@ static void read_hashes(const char *names, uint64_t *ids)
 
 static uint64_t pack_into(const struct packing *p, struct bytes image)
 {
-    return runnelpin_pack(p->file.at, p->file.length, p->ids[0], p->ids[1], p->ids[2], p->ids[3], p->block_size,
-                          p->signature_length, image.at, image.length);
+    begin_call("hashing and packing", p->file.length);
+    uint64_t code = runnelpin_pack(p->file.at, p->file.length, p->ids[0], p->ids[1], p->ids[2], p->ids[3],
+                                   p->block_size, p->signature_length, image.at, image.length);
+    end_step();
+    return code;
 }
 
 int job_pack(const struct request *request)
@@ -42,13 +47,12 @@ int job_pack(const struct request *request)
     struct bytes image = {NULL, 0};
     uint64_t code = pack_into(&p, image);
     if (code == RUNNELPIN_OUTPUT_LENGTH) {
-        image = zeros(runnelpin_image_length(p.file.length, p.ids[0], p.ids[1], p.ids[2], p.ids[3], p.block_size,
-                                             p.signature_length));
+        image = output_room(runnelpin_image_length(p.file.length, p.ids[0], p.ids[1], p.ids[2], p.ids[3],
+                                                   p.block_size, p.signature_length));
         code = pack_into(&p, image);
     }
     r.call.answer.code = code;
     if (!code) {
-        write_file(request->value[OPTION_OUTPUT], image);
         say(&r.words, "done: an image of %zu bytes, block count %" PRIu64 ", block size %" PRIu64 ", padding %" PRIu64,
             image.length, field(image.at, FIELD_BLOCK_COUNT), p.block_size, field(image.at, FIELD_PADDING));
         say(note(&r), "the image is not signed yet: its %" PRIu64 "-byte signature field is all zeros",
@@ -56,5 +60,6 @@ int job_pack(const struct request *request)
         if (!is_command_file(p.file))
             say(note(&r), "the file is not a command file " FILE_BEGINS ": it can be opened, but not loaded");
     }
+    give_output(&r, image);
     return finish(&r);
 }

@@ -2,21 +2,28 @@
 #include "report.h"
 
 #include "fail.h"
+#include "files.h"
 #include "json.h"
+#include "output.h"
 #include "print.h"
 
-#include <sys/stat.h>
 #include <unistd.h>
 
 struct report new_report(const struct request *request)
 {
     struct report r = {.request = request, .call = new_call(request)};
+    if (request->value[OPTION_OUTPUT])
+        begin_output(request->value[OPTION_OUTPUT]);
     return r;
 }
 
 struct text *note(struct report *r)
 {
-    return &r->notes[r->notes_made++];
+    struct text *new = allocate(NULL, sizeof *new);
+    *new = (struct text){NULL, 0};
+    r->notes = allocate(r->notes, (r->notes_made + 1) * sizeof *r->notes);
+    r->notes[r->notes_made++] = new;
+    return new;
 }
 
 static void print_json(const struct report *r)
@@ -31,25 +38,30 @@ static void print_json(const struct report *r)
     json_number("entry", a->entry);
     json_text("words", &r->words);
     json_open("notes", '[');
-    for (int i = 0; i < r->notes_made; i++)
-        json_text(NULL, &r->notes[i]);
+    for (size_t i = 0; i < r->notes_made; i++)
+        json_text(NULL, r->notes[i]);
     json_close(']');
     json_close('}');
 }
 
 static void print_text(const struct report *r)
 {
-    fprintf(answers(), "%s\n", r->words.at);
-    for (int i = 0; i < r->notes_made; i++)
-        fprintf(answers(), "%s\n", r->notes[i].at);
+    print_line(answers(), "", r->words.at);
+    for (size_t i = 0; i < r->notes_made; i++)
+        print_line(answers(), "", r->notes[i]->at);
 }
 
 /* Whether answers and errors go to the same terminal, file or pipe. */
 static int is_one_place(void)
 {
     struct stat out, err;
-    return !fstat(STDOUT_FILENO, &out) && !fstat(STDERR_FILENO, &err) && out.st_dev == err.st_dev &&
-           out.st_ino == err.st_ino;
+    return !fstat(STDOUT_FILENO, &out) && !fstat(STDERR_FILENO, &err) && is_one_file(&out, &err);
+}
+
+/* Whether a refusal is told on standard error too, for people: not where it is there already or a result is. */
+static int is_told_again(int is_json)
+{
+    return answers() != stderr && !is_on_standard_error() && (is_json || !is_one_place());
 }
 
 int finish(struct report *r)
@@ -62,7 +74,7 @@ int finish(struct report *r)
     else
         print_text(r);
     end_answer();
-    if (is_refused && (is_json || !is_one_place()))
+    if (is_refused && is_told_again(is_json))
         complain("%s%s%s", is_of_operand(&r->call) ? r->request->operand : "", is_of_operand(&r->call) ? ": " : "",
                  r->words.at);
     return is_refused ? STATUS_REFUSED : STATUS_DONE;

@@ -5,14 +5,12 @@
 #include "answer.h"
 #include "args.h"
 
-enum { MOST_NOTES = 4 };
-
 struct report {
     const struct request *request;
     struct call call;
     struct text words;
-    struct text notes[MOST_NOTES];
-    int notes_made;
+    struct text **notes;
+    size_t notes_made;
 };
 
 struct report new_report(const struct request *request);

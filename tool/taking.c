@@ -3,6 +3,7 @@
 #include "codes.h"
 #include "files.h"
 #include "image.h"
+#include "output.h"
 
 #include <inttypes.h>
 
@@ -37,10 +38,11 @@ static int is_wanted(const struct report *r)
 void give_output(struct report *r, struct bytes output)
 {
     const char *path = r->request->value[OPTION_OUTPUT];
-    if (!path || !is_wanted(r))
+    if (!path || !is_wanted(r)) {
+        drop_output();
         return;
-    write_file(path, output);
+    }
+    write_output(output);
     if (r->call.answer.code)
-        say(note(r), "%s has what was proved or stored before the refusal: %zu byte%s", path, output.length,
-            plural(output.length));
+        say(note(r), "partial output written: %s, %zu byte%s", path, output.length, plural(output.length));
 }

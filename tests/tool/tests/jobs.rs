@@ -165,9 +165,9 @@ fn on_a_refusal_only_partial_writes() {
         (said.status, desk.get("out")),
         (1, desk.get("file")[..proved].to_vec())
     );
-    assert!(said.out.contains(&format!(
-        "out has what was proved or stored before the refusal: {proved} bytes"
-    )));
+    assert!(said
+        .out
+        .contains(&format!("\npartial output written: out, {proved} bytes\n")));
     let said = desk.run(&format!("{load} --partial"));
     assert_eq!(
         (said.status, &desk.get("out")[0xff0..0x1000]),
@@ -193,6 +193,27 @@ fn output_goes_to_devices_and_pipes_directly() {
     assert_eq!(reader.join().unwrap(), desk.get("header"));
     let said = desk.shell("runnelpin header image -o /dev/stderr 2>&1 >said | cmp - header");
     assert_eq!(said.status, 0, "{said:?}");
+}
+
+/// Scripts hand out their files by it.
+#[test]
+fn a_copy_is_written_as_every_result_is() {
+    let desk = sample::desk();
+    fs::create_dir(desk.path("store")).unwrap();
+    desk.put("store/image", "old");
+    desk.put("image.unfinished", "a user's own");
+    symlink("store/image", desk.path("link")).unwrap();
+    let before = desk.names();
+    let said = desk.run("copy image -o link");
+    let size = desk.get("image").len();
+    assert_eq!(said.out, format!("done: {size} bytes copied\n"));
+    assert!(desk.path("link").is_symlink());
+    assert_eq!(desk.get("store/image"), desk.get("image"));
+    let said = desk.shell("runnelpin copy file -o link & runnelpin copy image -o link && wait $!");
+    assert_eq!((said.status, desk.names()), (0, before));
+    assert!([desk.get("file"), desk.get("image")].contains(&desk.get("link")));
+    assert_eq!(desk.run("copy image -o /dev/null").status, 0);
+    assert!(!fs::metadata("/dev/null").unwrap().is_file());
 }
 
 #[test]
