@@ -17,8 +17,7 @@ static struct region region_of(struct list map, size_t i)
 /* Where a record stands: the file and the line in it. */
 static void say_record(struct text *text, struct list list, size_t record)
 {
-    say_name(text, list.path);
-    say(text, ", %s %zu: ", list.lines ? "line" : "record", list.lines ? list.lines[record] : record + 1);
+    say(text, "%s, %s %zu: ", list.path, list.lines ? "line" : "record", list.lines ? list.lines[record] : record + 1);
 }
 
 /* Says what is wrong with region i behind one that ends at `end`; whether anything is. */
@@ -43,11 +42,10 @@ static int say_count_fault(struct text *fault, struct list map, size_t regions)
 {
     if (regions && regions <= MOST_REGIONS)
         return 0;
-    say_name(fault, map.path);
     if (regions)
-        say(fault, " has %zu regions, and at most %d are allowed", regions, MOST_REGIONS);
+        say(fault, "%s has %zu regions, and at most %d are allowed", map.path, regions, MOST_REGIONS);
     else
-        say(fault, " has no region, and at least one is needed");
+        say(fault, "%s has no region, and at least one is needed", map.path);
     return 1;
 }
 
@@ -66,10 +64,8 @@ uint64_t map_total(struct list map, struct text *fault)
     }
     if (total <= MOST_MEMORY)
         return total;
-    say(fault, "the regions of ");
-    say_name(fault, map.path);
-    say(fault, " have %" PRIu64 " bytes together, and at most %" PRIu64 " (2^32) are allowed", total,
-        (uint64_t)MOST_MEMORY);
+    say(fault, "the regions of %s have %" PRIu64 " bytes together, and at most %" PRIu64 " (2^32) are allowed", map.path,
+        total, (uint64_t)MOST_MEMORY);
     return 0;
 }
 
@@ -99,8 +95,7 @@ void say_table_fault(struct text *fault, struct list table)
 {
     size_t records = table.length / RECORD_BYTES, i = 1;
     if (records > MOST_RECORDS) {
-        say_name(fault, table.path);
-        say(fault, " has %zu records, and at most %d are allowed", records, MOST_RECORDS);
+        say(fault, "%s has %zu records, and at most %d are allowed", table.path, records, MOST_RECORDS);
         return;
     }
     while (i < records && inputs(table, i - 1) < inputs(table, i))

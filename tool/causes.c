@@ -35,14 +35,12 @@ static void say_map(struct text *text, const struct call *c)
     uint64_t total = map_total(b->map, text);
     if (!total)
         return;
-    say_name(text, c->request->value[OPTION_MEMORY]);
+    say(text, "%s has ", c->request->value[OPTION_MEMORY]);
     if (b->memory.length > MOST_MEMORY) /* read no further */
-        say(text, " has over 2^32 bytes");
+        say(text, "over 2^32 bytes");
     else
-        say(text, " has %zu byte%s", b->memory.length, plural(b->memory.length));
-    say(text, ", but the regions of ");
-    say_name(text, b->map.path);
-    say(text, " have %" PRIu64, total);
+        say(text, "%zu byte%s", b->memory.length, plural(b->memory.length));
+    say(text, ", but the regions of %s have %" PRIu64, b->map.path, total);
 }
 
 static void say_table(struct text *text, const struct call *c)
@@ -64,7 +62,7 @@ static void say_other_header(struct text *text, const struct call *c, const char
     size_t same = same_bytes(c->header, c->image);
     if (c->header.length >= LEAST_HEADER && c->header.length <= c->image.length)
         say(text, "byte %zu is %02x in the image and %02x in ", same, c->image.at[same], c->header.at[same]);
-    say_name(text, path);
+    say(text, "%s", path);
     if (c->header.length < LEAST_HEADER) {
         say_size(text, c->header.length);
         say(text, ", and a header has at least %d", LEAST_HEADER);

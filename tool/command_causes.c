@@ -48,8 +48,7 @@ static void say_reach(struct text *text, const struct call *c)
 static void say_range(struct text *text, const struct call *c)
 {
     struct command command = refused_command(c);
-    say(text, "0x%" PRIx64 " is in no region of ", first_outside(c->board.map, command.address));
-    say_name(text, c->board.map.path);
+    say(text, "0x%" PRIx64 " is in no region of %s", first_outside(c->board.map, command.address), c->board.map.path);
     if (command.count > 1)
         say(text, ", and the range is 0x%" PRIx64 " to 0x%" PRIx64, command.address,
             command.address + command.count - 1);
@@ -58,13 +57,10 @@ static void say_range(struct text *text, const struct call *c)
 static void say_no_table(struct text *text, const struct call *c)
 {
     say(text, "the command is a CPUID check, ");
-    if (c->board.table.path) {
-        say(text, "and ");
-        say_name(text, c->board.table.path);
-        say(text, " has no records");
-    } else {
+    if (c->board.table.path)
+        say(text, "and %s has no records", c->board.table.path);
+    else
         say(text, "which needs one: give --cpuid FILE or --cpuid host");
-    }
 }
 
 static void say_register(struct text *text, const struct call *c)
@@ -77,8 +73,8 @@ static void say_no_record(struct text *text, const struct call *c)
 {
     struct command command = refused_command(c);
     struct check check = check_of(&command);
-    say_name(text, c->board.table.path);
-    say(text, " has no record with the inputs EAX 0x%" PRIx64 ", ECX 0x%" PRIx64, check.eax, check.ecx);
+    say(text, "%s has no record with the inputs EAX 0x%" PRIx64 ", ECX 0x%" PRIx64, c->board.table.path, check.eax,
+        check.ecx);
 }
 
 static void say_found(struct text *text, const struct call *c)

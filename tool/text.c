@@ -21,12 +21,6 @@ const char *plural(uint64_t count)
     return count == 1 ? "" : "s";
 }
 
-void say_name(struct text *text, const char *name)
-{
-    for (const char *at = name; *at; at++)
-        say(text, "%c", (unsigned char)*at < ' ' || *at == 127 ? '?' : *at);
-}
-
 void say_hex(struct text *text, const uint8_t *bytes, size_t length)
 {
     for (size_t i = 0; i < length; i++)

@@ -14,9 +14,6 @@ void say(struct text *text, const char *format, ...) __attribute__((format(print
 /* The ending of a noun behind a number: 1 byte, 2 bytes. */
 const char *plural(uint64_t count);
 
-/* A file's name on one line: characters that don't print become question marks. */
-void say_name(struct text *text, const char *name);
-
 /* Bytes as two hexadecimal digits each, with spaces between. */
 void say_hex(struct text *text, const uint8_t *bytes, size_t length);
 

@@ -199,7 +199,7 @@ fn a_dash_is_standard_input() {
         (0, &desk.get("header")[3..])
     );
     let said = desk.shell("echo 1 | runnelpin run file --map -");
-    assert!(said.err.contains(": standard input: line 1: "), "{said:?}");
+    assert!(said.err.contains(": standard input, line 1: "), "{said:?}");
     let said = desk.shell("runnelpin show - --json <map");
     assert_eq!(said.json()["file"].text(), "standard input");
     assert!(said.err.starts_with("runnelpin: standard input: refused"));
