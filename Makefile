@@ -36,7 +36,7 @@ build/librunnelpin.a: crates.txt $(shell find crates)
 tool: build/runnelpin ## build/runnelpin, the command-line tool; 'man ./docs/runnelpin.1' tells of it
 
 TOOL_PARTS = build/librunnelpin.a include/runnelpin.h $(wildcard tool/*.[ch] common/*.[ch])
-TOOL = $(CC) -pthread -std=c99 -Wall -Wextra -Werror -Iinclude -Icommon $(CPPFLAGS) $(CFLAGS) $(WATCH) -o $@ \
+TOOL = $(CC) -std=c99 -pthread -Wall -Wextra -Werror -Iinclude -Icommon $(CPPFLAGS) $(CFLAGS) $(WATCH) -o $@ \
     $(filter %.c, $(TOOL_PARTS)) $(LDFLAGS) build/librunnelpin.a $(LDLIBS)
 
 build/runnelpin: $(TOOL_PARTS)
