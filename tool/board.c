@@ -43,9 +43,9 @@ static int say_count_fault(struct text *fault, struct list map, size_t regions)
     if (regions && regions <= MOST_REGIONS)
         return 0;
     if (regions)
-        say(fault, "%s has %zu regions, and at most %d are allowed", map.path, regions, MOST_REGIONS);
+        say(fault, "%s has %zu regions, but at most %d are allowed", map.path, regions, MOST_REGIONS);
     else
-        say(fault, "%s has no region, and at least one is needed", map.path);
+        say(fault, "%s has no regions, but needs at least one", map.path);
     return 1;
 }
 
@@ -64,7 +64,7 @@ uint64_t map_total(struct list map, struct text *fault)
     }
     if (total <= MOST_MEMORY)
         return total;
-    say(fault, "the regions of %s have %" PRIu64 " bytes together, and at most %" PRIu64 " (2^32) are allowed", map.path,
+    say(fault, "the regions of %s have %" PRIu64 " bytes together, but at most %" PRIu64 " (2^32) are allowed", map.path,
         total, (uint64_t)MOST_MEMORY);
     return 0;
 }
@@ -95,7 +95,7 @@ void say_table_fault(struct text *fault, struct list table)
 {
     size_t records = table.length / RECORD_BYTES, i = 1;
     if (records > MOST_RECORDS) {
-        say(fault, "%s has %zu records, and at most %d are allowed", table.path, records, MOST_RECORDS);
+        say(fault, "%s has %zu records, but at most %d are allowed", table.path, records, MOST_RECORDS);
         return;
     }
     while (i < records && inputs(table, i - 1) < inputs(table, i))

@@ -20,12 +20,11 @@ static uint64_t packed_length(const struct packing *p)
 static void say_argument(struct text *text, const struct call *c)
 {
     if (c->signature_length < 1 || c->signature_length > MOST_SIGNATURE) {
-        say(text, "the signature length is %" PRIu64 ", and 1 to %d are allowed", c->signature_length, MOST_SIGNATURE);
+        say(text, "the signature length is %" PRIu64 ", but must be 1 to %d", c->signature_length, MOST_SIGNATURE);
     } else if (c->packing && c->image.length <= LARGEST) {
-        say(text, "its image would have %" PRIu64 " bytes, over 2^30", packed_length(c->packing));
+        say(text, "its image would have %" PRIu64 " bytes, over the limit of 2^30", packed_length(c->packing));
     } else {
-        say(text, c->is_image ? "the image" : "the file");
-        say_size(text, c->image.length);
+        say(text, "%s is over the limit of 2^30 bytes", c->is_image ? "the image" : "the file");
     }
 }
 
@@ -61,14 +60,14 @@ static void say_other_header(struct text *text, const struct call *c, const char
 {
     size_t same = same_bytes(c->header, c->image);
     if (c->header.length >= LEAST_HEADER && c->header.length <= c->image.length)
-        say(text, "byte %zu is %02x in the image and %02x in ", same, c->image.at[same], c->header.at[same]);
+        say(text, "byte %zu is %02x in the image, but %02x in ", same, c->image.at[same], c->header.at[same]);
     say(text, "%s", path);
     if (c->header.length < LEAST_HEADER) {
         say_size(text, c->header.length);
-        say(text, ", and a header has at least %d", LEAST_HEADER);
+        say(text, ", but a header has at least %d", LEAST_HEADER);
     } else if (c->header.length > c->image.length) {
         say_size(text, c->header.length);
-        say(text, ", and the image only %zu", c->image.length);
+        say(text, ", but the image only %zu", c->image.length);
     }
     say(text, "; give the header that was approved for this image");
 }
@@ -81,7 +80,7 @@ static void say_approved(struct text *text, const struct call *c)
     else if (path)
         say_other_header(text, c, path);
     else
-        say(text, "the image has only %zu byte%s, and a header alone has at least %d", c->image.length,
+        say(text, "the image has only %zu byte%s, but a header alone has at least %d", c->image.length,
             plural(c->image.length), LEAST_HEADER);
 }
 

@@ -29,7 +29,7 @@ static void say_data_length(struct text *text, const struct call *c)
 {
     struct command command = refused_command(c);
     const struct kind *kind = kind_of(command.id);
-    say(text, "its data length is %" PRIu64 ", and that of %s is %s%" PRIu64, command.length, kind->name,
+    say(text, "its data length is %" PRIu64 ", but must be %s%" PRIu64, command.length,
         kind->least < kind->most ? "at least " : "", kind->least);
 }
 
@@ -38,11 +38,11 @@ static void say_reach(struct text *text, const struct call *c)
     struct command command = refused_command(c);
     uint64_t mode = c->board.mode, most = reach_limit(64);
     if (c->is_shown)
-        say(text, "no mode reaches addresses from 0x%" PRIx64 " on", most);
+        say(text, "no mode reaches 0x%" PRIx64 " and above", most);
     else
-        say(text, "mode %" PRIu64 " reaches addresses below 0x%" PRIx64, mode, reach_limit(mode));
+        say(text, "mode %" PRIu64 " reaches only addresses below 0x%" PRIx64, mode, reach_limit(mode));
     if (mode == 32 && command.address < most && command.count <= most - command.address)
-        say(text, " (--mode 64 below 0x%" PRIx64 ")", most);
+        say(text, " (--mode 64: below 0x%" PRIx64 ")", most);
 }
 
 static void say_range(struct text *text, const struct call *c)
@@ -50,15 +50,14 @@ static void say_range(struct text *text, const struct call *c)
     struct command command = refused_command(c);
     say(text, "0x%" PRIx64 " is in no region of %s", first_outside(c->board.map, command.address), c->board.map.path);
     if (command.count > 1)
-        say(text, ", and the range is 0x%" PRIx64 " to 0x%" PRIx64, command.address,
-            command.address + command.count - 1);
+        say(text, " (range 0x%" PRIx64 " to 0x%" PRIx64 ")", command.address, command.address + command.count - 1);
 }
 
 static void say_no_table(struct text *text, const struct call *c)
 {
     say(text, "the command is a CPUID check, ");
     if (c->board.table.path)
-        say(text, "and %s has no records", c->board.table.path);
+        say(text, "but %s has no records", c->board.table.path);
     else
         say(text, "which needs one: give --cpuid FILE or --cpuid host");
 }
@@ -66,7 +65,7 @@ static void say_no_table(struct text *text, const struct call *c)
 static void say_register(struct text *text, const struct call *c)
 {
     struct command command = refused_command(c);
-    say(text, "it is %u, and 0 to 3 are allowed, for EAX, EBX, ECX and EDX", check_of(&command).number);
+    say(text, "it is %u, but must be 0 to 3, for EAX, EBX, ECX or EDX", check_of(&command).number);
 }
 
 static void say_no_record(struct text *text, const struct call *c)

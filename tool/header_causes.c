@@ -28,26 +28,27 @@ static void say_hash(struct text *text, const struct call *c)
     if (hash_id(c, i))
         say(text, "hash %d has ID %" PRIu64 ", which is not known (", i + 1, hash_id(c, i));
     else
-        say(text, "hash 1 is none, and the first must be a hash (");
+        say(text, "hash 1 is none, but the first must be a hash (");
     say_hashes(text, i > 0);
     say(text, ")");
 }
 
 static void say_hashsum_length(struct text *text, const struct call *c)
 {
-    say(text, "it is %" PRIu64 ", but the hashes in the header (", field(c->header.at, FIELD_HASHSUM_LENGTH));
+    say(text, "it is %" PRIu64 ", but must be %" PRIu64 " for the hashes in the header (",
+        field(c->header.at, FIELD_HASHSUM_LENGTH), hashsum_length(c));
     for (int i = 0; i < HASHES; i++) /* the first is never none */
         if (hash_id(c, i))
             say(text, "%s%s", i ? ", " : "", hash_of_id(hash_id(c, i))->name);
-    say(text, ") make it %" PRIu64, hashsum_length(c));
+    say(text, ")");
 }
 
 static void say_header_size(struct text *text, const struct call *c)
 {
     uint64_t size = field(c->header.at, FIELD_HEADER_SIZE), sum = hashsum_length(c);
     if (size != LEAST_HEADER + sum)
-        say(text, "it is %" PRIu64 ", but %d plus the hashsum length, %" PRIu64 ", is %" PRIu64, size, LEAST_HEADER,
-            sum, LEAST_HEADER + sum);
+        say(text, "it is %" PRIu64 ", but must be %" PRIu64 " (%d plus the hashsum length, %" PRIu64 ")", size,
+            LEAST_HEADER + sum, LEAST_HEADER, sum);
     else if (!c->request->value[OPTION_HEADER])
         say(text, "it is %" PRIu64 ", but the image has only %zu bytes", size, c->image.length);
     else
@@ -57,7 +58,7 @@ static void say_header_size(struct text *text, const struct call *c)
 
 static void say_scheme(struct text *text, const struct call *c)
 {
-    say(text, "it is %" PRIu64 ", and only 1 is supported", field(c->header.at, FIELD_SCHEME));
+    say(text, "it is %" PRIu64 ", but only 1 is supported", field(c->header.at, FIELD_SCHEME));
 }
 
 /* Without --signature the length that the header states is expected, unless none can have it. */
@@ -67,7 +68,7 @@ static void say_signature_length(struct text *text, const struct call *c)
     if (c->request->value[OPTION_SIGNATURE])
         say(text, " in the header, but --signature says %" PRIu64, c->signature_length);
     else
-        say(text, ", and 1 to %d are allowed", MOST_SIGNATURE);
+        say(text, ", but must be 1 to %d", MOST_SIGNATURE);
 }
 
 static void say_blocks(struct text *text, const struct call *c)
@@ -75,7 +76,7 @@ static void say_blocks(struct text *text, const struct call *c)
     const uint8_t *header = c->header.at;
     uint64_t sum = hashsum_length(c), size = c->packing ? c->packing->block_size : field(header, FIELD_BLOCK_SIZE);
     if (!c->packing && !field(header, FIELD_BLOCK_COUNT))
-        say(text, "block count is 0, and an image has at least one block");
+        say(text, "block count is 0, but an image has at least one block");
     else if (size <= sum)
         say(text, "block size %" PRIu64 " is not above the hashsum length, %" PRIu64, size, sum);
     else if (size > MOST_BLOCK)

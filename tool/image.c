@@ -98,7 +98,7 @@ void say_no_image(struct text *text, struct bytes all)
     if (!is_like_image(all))
         say(text, "not an image: ");
     say_beginning(text, all.at, all.length, width);
-    say(text, ", and an image %swith " IMAGE_BEGINS, all.length < width ? "begins " : "");
+    say(text, all.length < width ? " (an image begins with " IMAGE_BEGINS ")" : " instead of " IMAGE_BEGINS);
     if (is_command_file(all))
         say(text, "; this is a command file: use pack or run");
 }

@@ -176,7 +176,7 @@ fn headers_of_one_byte_and_images_cut_short() {
     let desk = sample::desk();
     let image = desk.get("image");
     desk.put("one", &image[..1]);
-    let part = "refused: 4, approved header: one has 1 byte, and a header has at least 36; ";
+    let part = "refused: 4, approved header: one has 1 byte, but a header has at least 36; ";
     for words in [
         "open image --header one -o out",
         "signature image --header one -o out",

@@ -99,8 +99,7 @@ fn every_code_has_its_words() {
 fn arguments(r: &mut Refusals) {
     let load = "load image --header header --map map";
     for (number, shown) in [("0", "0"), ("4097", "4097"), ("0x100000008", "4294967304")] {
-        let line =
-            format!("1, argument: the signature length is {shown}, and 1 to 4096 are allowed");
+        let line = format!("1, argument: the signature length is {shown}, but must be 1 to 4096");
         r.refused(&format!("{load} --signature {number}"), &line);
         r.refused(&format!("pack file -o out --signature {number}"), &line);
     }
@@ -121,28 +120,34 @@ fn large_inputs(r: &mut Refusals) {
         "header large -o out",
         "show large",
     ] {
-        r.refused(words, "1, argument: the image has over 2^30 bytes");
+        r.refused(
+            words,
+            "1, argument: the image is over the limit of 2^30 bytes",
+        );
     }
     for words in [
         "run large --map map",
         "pack large -o out",
         "copy large -o out",
     ] {
-        r.refused(words, "1, argument: the file has over 2^30 bytes");
+        r.refused(
+            words,
+            "1, argument: the file is over the limit of 2^30 bytes",
+        );
     }
     let json = r.desk.run("show large --json").json();
     assert_eq!(json["kind"].text(), "image");
     assert_eq!(json["header"]["block_count"].number(), 4);
     assert!(json.get("length").is_none(), "it is not known: {json:?}");
     large.set_len(1 << 30).unwrap();
-    let line = "1, argument: its image would have 1074856548 bytes, over 2^30";
+    let line = "1, argument: its image would have 1074856548 bytes, over the limit of 2^30";
     r.refused("pack large -o out", line);
 }
 
 fn maps(r: &mut Refusals) {
     r.desk.put("three", "abc");
     for (map, line) in [
-        ("# none\n", "unit.map has no region, and at least one is needed"),
+        ("# none\n", "unit.map has no regions, but needs at least one"),
         (
             "0 1\n\n# second\n0x5 0x0\n",
             "unit.map, line 4: the region 0x5 0x0 has length 0",
@@ -161,7 +166,7 @@ fn maps(r: &mut Refusals) {
         ),
         (
             "0 0x100000000\n0x100000000 1\n",
-            "the regions of unit.map have 4294967297 bytes together, and at most 4294967296 (2^32) are allowed",
+            "the regions of unit.map have 4294967297 bytes together, but at most 4294967296 (2^32) are allowed",
         ),
         ("0 1\n", "three has 3 bytes, but the regions of unit.map have 1"),
     ] {
@@ -172,7 +177,7 @@ fn maps(r: &mut Refusals) {
     }
     let many: String = (0..17).map(|i| format!("{i} 1\n")).collect();
     r.desk.put("unit.map", many);
-    let line = "2, map: unit.map has 17 regions, and at most 16 are allowed";
+    let line = "2, map: unit.map has 17 regions, but at most 16 are allowed";
     r.refused("run file --map unit.map", line);
     r.refused("show file --map unit.map", line);
     r.desk.put("one", "a");
@@ -193,7 +198,7 @@ fn tables(r: &mut Refusals) {
     r.refused(words, line);
     let many: String = (0..65).map(|i| format!("{i} 0 0 0 0 0\n")).collect();
     r.desk.put("unit.cpuid", many);
-    let line = "3, CPUID table: unit.cpuid has 65 records, and at most 64 are allowed";
+    let line = "3, CPUID table: unit.cpuid has 65 records, but at most 64 are allowed";
     r.refused(words, line);
 }
 
@@ -201,19 +206,19 @@ fn approved_headers(r: &mut Refusals) {
     let image = r.desk.get("image");
     let give = "; give the header that was approved for this image";
     r.desk.put("bad", &image[..1]);
-    let line = "4, approved header: bad has 1 byte, and a header has at least 36";
+    let line = "4, approved header: bad has 1 byte, but a header has at least 36";
     r.refused("open image --header bad -o out", &format!("{line}{give}"));
     r.desk.put("bad", [&image[..], b"more"].concat());
-    let line = "4, approved header: bad has 464 bytes, and the image only 460";
+    let line = "4, approved header: bad has 464 bytes, but the image only 460";
     r.refused("open image --header bad -o out", &format!("{line}{give}"));
     let mut header = r.desk.get("header");
     header[30] ^= 1;
     r.desk.put("bad", header);
-    let line = "4, approved header: byte 30 is 00 in the image and 01 in bad";
+    let line = "4, approved header: byte 30 is 00 in the image, but 01 in bad";
     r.refused("open image --header bad -o out", &format!("{line}{give}"));
     r.desk.put("cut", &image[..35]);
     let line =
-        "4, approved header: the image has only 35 bytes, and a header alone has at least 36";
+        "4, approved header: the image has only 35 bytes, but a header alone has at least 36";
     r.refused("header cut -o out", line);
     r.refused("show cut", line);
     let line = "8, header size: the approved header has 460 bytes, but its size field says 68; \
@@ -231,7 +236,7 @@ fn approved_headers(r: &mut Refusals) {
 
 fn hashes(r: &mut Refusals) {
     let none =
-        "6, hash: hash 1 is none, and the first must be a hash (2 sha256, 3 sha384, 4 sha512)";
+        "6, hash: hash 1 is none, but the first must be a hash (2 sha256, 3 sha384, 4 sha512)";
     r.header(field::IDS[0], 0, none);
     r.refused("pack file -o out --hash none,sha256", none);
     let line = "6, hash: hash 1 has ID 9, which is not known (2 sha256, 3 sha384, 4 sha512)";
@@ -244,9 +249,9 @@ fn hashes(r: &mut Refusals) {
         r.header(field::IDS[i], id, &line);
     }
     let line =
-        "7, hashsum length: it is 32, but the hashes in the header (sha256, sha512) make it 96";
+        "7, hashsum length: it is 32, but must be 96 for the hashes in the header (sha256, sha512)";
     r.header(field::IDS[2], 4, line);
-    let line = "7, hashsum length: it is 33, but the hashes in the header (sha256) make it 32";
+    let line = "7, hashsum length: it is 33, but must be 32 for the hashes in the header (sha256)";
     r.header(field::SUM, 33, line);
 }
 
@@ -255,32 +260,32 @@ fn header_fields(r: &mut Refusals) {
         (
             field::MAGIC,
             1,
-            "5, header magic: it begins with 01 00 00 00, and an image with 98 95 01 e6",
+            "5, header magic: it begins with 01 00 00 00 instead of 98 95 01 e6",
         ),
         (
             field::HEADER_SIZE,
             69,
-            "8, header size: it is 69, but 36 plus the hashsum length, 32, is 68",
+            "8, header size: it is 69, but must be 68 (36 plus the hashsum length, 32)",
         ),
         (
             field::SCHEME,
             2,
-            "9, signature scheme: it is 2, and only 1 is supported",
+            "9, signature scheme: it is 2, but only 1 is supported",
         ),
         (
             field::SIGNATURE,
             0,
-            "10, signature length: it is 0, and 1 to 4096 are allowed",
+            "10, signature length: it is 0, but must be 1 to 4096",
         ),
         (
             field::SIGNATURE,
             4097,
-            "10, signature length: it is 4097, and 1 to 4096 are allowed",
+            "10, signature length: it is 4097, but must be 1 to 4096",
         ),
         (
             field::COUNT,
             0,
-            "11, blocks: block count is 0, and an image has at least one block",
+            "11, blocks: block count is 0, but an image has at least one block",
         ),
         (
             field::BLOCK_SIZE,
@@ -387,7 +392,7 @@ fn files(r: &mut Refusals) {
         r.refused("load image --header header --map map", &line);
     }
     r.desk = sample::desk();
-    let none = "not an image: it begins with 23 20 52 75, and an image with 98 95 01 e6";
+    let none = "not an image: it begins with 23 20 52 75 instead of 98 95 01 e6";
     r.desk
         .put("README.md", "# Runnelpin\n\nA boot loader for the desk\n");
     let read_me = r.desk.get("README.md");
@@ -407,7 +412,7 @@ fn files(r: &mut Refusals) {
     ] {
         r.refused(words, &format!("4, approved header: {none}"));
     }
-    let other = "not an image: it begins with 5e b6 8c 44, and an image with 98 95 01 e6; \
+    let other = "not an image: it begins with 5e b6 8c 44 instead of 98 95 01 e6; \
                  this is a command file: use pack or run";
     r.refused("header file -o out", &format!("5, header magic: {other}"));
     let words = "load file --header header --map map";
@@ -420,14 +425,14 @@ fn files(r: &mut Refusals) {
         &format!("4, approved header: {none}"),
     );
     r.desk.put("README.md", &read_me[..1]);
-    let none = "not an image: it has only 1 byte, and an image begins with 98 95 01 e6";
+    let none = "not an image: it has only 1 byte (an image begins with 98 95 01 e6)";
     r.refused(
         "header README.md -o out",
         &format!("4, approved header: {none}"),
     );
     r.refused("show README.md", &format!("16, file magic: {none}{either}"));
     r.desk.put("README.md", "");
-    let none = "not an image: it is empty, and an image begins with 98 95 01 e6";
+    let none = "not an image: it is empty (an image begins with 98 95 01 e6)";
     r.refused("show README.md", &format!("16, file magic: {none}{either}"));
 }
 
@@ -458,17 +463,17 @@ fn commands(r: &mut Refusals) {
         ),
         (
             File::new().command(1, &[0; 23]),
-            "19, command length: its data length is 23, and that of fill is 24; file offset 8: \
+            "19, command length: its data length is 23, but must be 24; file offset 8: \
              fill with 23 bytes of data",
         ),
         (
             File::new().command(0, &[0; 7]),
-            "19, command length: its data length is 7, and that of write is at least 8; file offset 8: \
+            "19, command length: its data length is 7, but must be at least 8; file offset 8: \
              write with 7 bytes of data",
         ),
         (
             File::new().command(2, &[0; 9]),
-            "19, command length: its data length is 9, and that of entry is 8; file offset 8: \
+            "19, command length: its data length is 9, but must be 8; file offset 8: \
              entry with 9 bytes of data",
         ),
         (
@@ -486,7 +491,8 @@ fn commands(r: &mut Refusals) {
 
 fn ranges(r: &mut Refusals) {
     let file = File::new().write(0x1ff0, &[1; 16]).write(0x1ff0, &[2; 17]);
-    let line = "21, not RAM: 0x2000 is in no region of map, and the range is 0x1ff0 to 0x2000; file offset 48: \
+    let line =
+        "21, not RAM: 0x2000 is in no region of map (range 0x1ff0 to 0x2000); file offset 48: \
                 write of 17 bytes at 0x1ff0; commands done 1, bytes stored 16, entry 0";
     r.run(file, line);
     let line = "21, not RAM: 0x900000 is in no region of map; file offset 8: fill of 1 byte of 0x00 at 0x900000";
@@ -495,7 +501,7 @@ fn ranges(r: &mut Refusals) {
         &format!("{line}{NOTHING_DONE}"),
     );
     let of_64 =
-        "20, not reachable: mode 64 reaches addresses below 0x10000000000000; file offset 8: ";
+        "20, not reachable: mode 64 reaches only addresses below 0x10000000000000; file offset 8: ";
     let entry = "entry at 0xffffffffffffffff";
     r.run(
         File::new().entry(u64::MAX),
@@ -506,13 +512,13 @@ fn ranges(r: &mut Refusals) {
         File::new().fill(0x1000, u64::MAX, 7),
         &format!("{of_64}{fill}{NOTHING_DONE}"),
     );
-    let line =
-        "20, not reachable: no mode reaches addresses from 0x10000000000000 on; file offset 8: ";
+    let line = "20, not reachable: no mode reaches 0x10000000000000 and above; file offset 8: ";
     r.refused("show file", &format!("{line}{fill}"));
-    let of_32 = "20, not reachable: mode 32 reaches addresses below 0x100000000; file offset 8: ";
+    let of_32 =
+        "20, not reachable: mode 32 reaches only addresses below 0x100000000; file offset 8: ";
     let line = format!("{of_32}{fill}{NOTHING_DONE}");
     r.refused("run file --map map --mode 32", &line);
-    let line = "20, not reachable: mode 32 reaches addresses below 0x100000000 (--mode 64 below 0x10000000000000); \
+    let line = "20, not reachable: mode 32 reaches only addresses below 0x100000000 (--mode 64: below 0x10000000000000); \
                 file offset 8: entry at 0x100000000";
     r.desk.put("file", File::new().entry(1 << 32).0);
     r.refused(
@@ -527,7 +533,7 @@ fn checks(r: &mut Refusals) {
     let text = "\\xff".repeat(64);
     let line = format!("22, check text: it has no zero byte{of_eax}\"{text}\"{NOTHING_DONE}");
     r.run(check([2, 1, 0x30, 0x30], 0, None), &line);
-    let line = "24, check register: it is 4, and 0 to 3 are allowed, for EAX, EBX, ECX and EDX; file offset 8: \
+    let line = "24, check register: it is 4, but must be 0 to 3, for EAX, EBX, ECX or EDX; file offset 8: \
                 CPUID check of EAX 0x1, ECX 0x2: register 4 & 0x30 = 0x30, \"\"";
     r.run(
         check([2, 1, 0x30, 0x30], 4, Some(0)),
@@ -552,7 +558,7 @@ fn checks(r: &mut Refusals) {
             "run file --map map",
             "which needs one: give --cpuid FILE or --cpuid host",
         ),
-        ("run file --map map --cpuid none", "and none has no records"),
+        ("run file --map map --cpuid none", "but none has no records"),
     ] {
         let line = format!(
             "23, no CPUID table: the command is a CPUID check, {line}{of_eax}\"\"{NOTHING_DONE}"
