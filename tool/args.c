@@ -31,7 +31,7 @@ static const struct job *job_named(const char *name, const struct job *jobs, siz
     }
     if (meant)
         fail("unknown verb: %s; did you mean %s?", name, meant);
-    fail("unknown verb: %s; 'runnelpin --help' lists them", name);
+    fail("unknown verb: %s; 'runnelpin --help' lists the verbs", name);
 }
 
 /* Of an option that no verb has: names one of the verb's, or of any while there is none yet, that may be meant. */
@@ -54,7 +54,7 @@ static void refuse_foreign(const struct job *job, int option, const struct job *
     for (size_t j = 0; j < count; j++)
         if (takes(&jobs[j], option))
             say(&others, "%s%s", others.length ? ", " : "", jobs[j].name);
-    fail("%s does not take %s, which is for: %s", job->name, options[option].name, others.at);
+    fail("%s is not an option of %s, only of %s", options[option].name, job->name, others.at);
 }
 
 static void take_option(struct request *request, const struct word *word)
@@ -83,7 +83,7 @@ static void take_operand(struct request *request, const char *text, const struct
         return;
     }
     if (request->operand)
-        fail("%s: only one %s can be given: %s is one too many", request->job->name, request->job->operand, text);
+        fail("%s takes only one %s; %s is one too many", request->job->name, request->job->operand, text);
     if (!*text)
         fail("%s: the name of %s is empty", request->job->name, request->job->operand);
     request->operand = text;
@@ -98,9 +98,10 @@ static void check_options(const struct request *request, const struct job *jobs,
         if (job->needs >> o & 1 && !request->value[o])
             fail("%s: %s %s is missing", job->name, options[o].name, value_name(job, o));
     }
-    uint64_t mode = option_number(request, OPTION_MODE, 64);
-    if (mode != 32 && mode != 64)
-        fail("--mode %s: give 32 or 64", request->value[OPTION_MODE]);
+    const char *mode = request->value[OPTION_MODE];
+    uint64_t bits = 64;
+    if (mode && (!read_number(mode, strlen(mode), 64, &bits) || (bits != 32 && bits != 64)))
+        fail("--mode %s: give 32 or 64", mode);
 }
 
 static int is_help(const char *verb)
@@ -116,7 +117,7 @@ static void tell(const struct glance *seen, const struct job *jobs, size_t count
     if (!asks_help && !seen->has[OPTION_VERSION])
         return;
     if (is_help(*verb) && verb[2])
-        fail("help: only one VERB can be given: %s is one too many", verb[2]);
+        fail("help takes only one VERB; %s is one too many", verb[2]);
     if (is_help(*verb))
         verb++;
     if (!asks_help)
@@ -143,7 +144,7 @@ struct request read_request(char **words, const struct job *jobs, size_t count)
             take_option(&request, &word);
     }
     if (!request.job)
-        fail("the verb is missing; 'runnelpin --help' lists them");
+        fail("the verb is missing; 'runnelpin --help' lists the verbs");
     if (!request.operand)
         fail("%s: %s is missing", request.job->name, request.job->operand);
     check_options(&request, jobs, count);

@@ -59,16 +59,17 @@ static size_t same_bytes(struct bytes one, struct bytes other)
 static void say_other_header(struct text *text, const struct call *c, const char *path)
 {
     size_t same = same_bytes(c->header, c->image);
-    if (c->header.length >= LEAST_HEADER && c->header.length <= c->image.length)
-        say(text, "byte %zu is %02x in the image, but %02x in ", same, c->image.at[same], c->header.at[same]);
-    say(text, "%s", path);
-    if (c->header.length < LEAST_HEADER) {
-        say_size(text, c->header.length);
-        say(text, ", but a header has at least %d", LEAST_HEADER);
-    } else if (c->header.length > c->image.length) {
-        say_size(text, c->header.length);
-        say(text, ", but the image only %zu", c->image.length);
+    if (c->header.length >= LEAST_HEADER && c->header.length <= c->image.length) {
+        say(text, "byte %zu is %02x in the image, but %02x in %s; wrong header, or the image was changed", same,
+            c->image.at[same], c->header.at[same], path);
+        return;
     }
+    say(text, "%s", path);
+    say_size(text, c->header.length);
+    if (c->header.length < LEAST_HEADER)
+        say(text, ", but a header has at least %d", LEAST_HEADER);
+    else
+        say(text, ", but the image only %zu", c->image.length);
     say(text, "; give the header that was approved for this image");
 }
 

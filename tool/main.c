@@ -21,7 +21,7 @@ static const struct job jobs[] = {
     {"run", "FILE", TAKES(MAP), RUNNING, job_run, "MEMORY", "run the commands of a file that is not in an image",
      "route.csl --map unit.map --cpuid host -o memory"},
     {"show", "IMAGE|FILE", 0, TAKES(MAP) | TAKES(JSON), job_show, NULL,
-     "show what is in an image or a command file, and how far it is good", "route.sbs"},
+     "show what an image or a command file holds, and how far it is good", "route.sbs"},
     {"copy", "FILE", TAKES(OUTPUT), TAKES(JSON), job_copy, "COPY",
      "copy a file; the copy gets its name only when it is complete", "route.sbs -o outbox/route.sbs"},
 };

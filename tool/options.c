@@ -16,15 +16,15 @@ const struct option_form options[OPTIONS] = {
     [OPTION_CPUID] = {"--cpuid", NULL, "FILE|host", "the CPUID table: six numbers on each line, or this\n"
                                                     "machine's (default: none, so every check is refused)"},
     [OPTION_MODE] = {"--mode", NULL, "32|64", "the addressing mode (default: 64)"},
-    [OPTION_MEMORY] = {"--memory", NULL, "FILE", "what memory holds at first (default: zeros)"},
+    [OPTION_MEMORY] = {"--memory", NULL, "FILE", "what memory holds before the run (default: zeros)"},
     [OPTION_PARTIAL] = {"--partial", NULL, NULL, "on a refusal, write what was proved or stored before it"},
-    [OPTION_JSON] = {"--json", NULL, NULL, "answer in JSON, errors too"},
+    [OPTION_JSON] = {"--json", NULL, NULL, "print the answer as JSON, errors too"},
     [OPTION_HELP] = {"--help", "-h", NULL, "print this"},
     [OPTION_VERSION] = {"--version", "-V", NULL, "print the version"},
 };
 
-static const char memory_after[] = "where to write what memory holds at the end; - is standard\n"
-                                   "output (default: nowhere)";
+static const char memory_after[] = "where to write what memory holds after the run; - is\n"
+                                   "standard output (default: nowhere)";
 
 /* What an option means to one verb only. */
 static const struct {
@@ -32,12 +32,12 @@ static const struct {
     enum option option;
     const char *meaning;
 } special[] = {
-    {"pack", OPTION_SIGNATURE, "the signature length, 1 to 4096 (default: 512)"},
+    {"pack", OPTION_SIGNATURE, "the length of the signature field, 1 to 4096\n(default: 512)"},
     {"signature", OPTION_HEADER,
      "the approved header; before it is approved, the one that\n'runnelpin header' extracts"},
     {"load", OPTION_OUTPUT, memory_after},
     {"run", OPTION_OUTPUT, memory_after},
-    {"show", OPTION_MAP, "the memory map, to say if the entry is outside it\n(default: none)"},
+    {"show", OPTION_MAP, "the memory map; show then says if the entry is outside it\n(default: none)"},
 };
 
 const char *option_meaning(enum option option, const char *verb)

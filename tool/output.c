@@ -52,8 +52,10 @@ static int standard_descriptor(const struct stat *target)
 static void make_target(void)
 {
     struct stat about;
-    if (errno != ENOENT || !lstat(output.path, &about)) /* a link to nothing is left alone */
+    if (errno != ENOENT)
         cant_write();
+    if (!lstat(output.path, &about)) /* it is left alone */
+        fail("%s: can't be written: it is a link to a file that does not exist", output.path);
     mode_t mask = umask(0);
     umask(mask);
     output.target = output.path;
@@ -110,7 +112,7 @@ static void make_file(void)
     output.beside = beside.at;
     output.file = make_unfinished(output.beside);
     if (output.file < 0)
-        fail("%s: can't create a file beside it: %s", output.path, strerror(errno));
+        fail("%s: can't create a file in its folder: %s", output.path, strerror(errno));
 }
 
 static struct sigaction before_losing;

@@ -7,7 +7,7 @@
 
 #include <inttypes.h>
 
-const char not_approved[] = "this header has not been approved";
+const char not_approved[] = "this is the image's own header, not an approved one";
 
 static void take_signature_length(struct report *r)
 {
@@ -15,7 +15,7 @@ static void take_signature_length(struct report *r)
     r->call.signature_length = option_number(r->request, OPTION_SIGNATURE, own);
     if (!r->request->value[OPTION_SIGNATURE] && r->call.header.length >= LEAST_HEADER &&
         field(r->call.header.at, FIELD_SIGNATURE_LENGTH) == own)
-        say(note(r), "the expected signature length is taken from the header: %" PRIu64, own);
+        say(note(r), "expected signature length, from the header: %" PRIu64, own);
 }
 
 void take_image(struct report *r)

@@ -58,7 +58,7 @@ fn numbers() {
             &desk,
             &format!("run file --map map -o out --mode {number}"),
             USAGE,
-            &part,
+            &format!("--mode {number}: give 32 or 64"),
         );
         let part = format!("line 2: \"{number}\" is not a 64-bit number");
         desk.put("list", format!("0x1000 4096\n{number} 1\n"));
@@ -210,10 +210,13 @@ fn outputs_that_cant_be_made() {
     symlink("nothing", desk.path("link")).unwrap();
     for (name, reason) in [
         ("folder", "can't be written: Is a directory"),
-        ("link", "can't be written: No such file or directory"),
+        (
+            "link",
+            "can't be written: it is a link to a file that does not exist",
+        ),
         (
             "nothing/out",
-            "can't create a file beside it: No such file or directory",
+            "can't create a file in its folder: No such file or directory",
         ),
         ("file/out", "can't be written: Not a directory"),
         ("/dev/full", "can't be written: No space left on device"),
@@ -286,7 +289,7 @@ fn no_permission() {
     );
     denied(
         "header image -o new",
-        "new: can't create a file beside it: Permission denied",
+        "new: can't create a file in its folder: Permission denied",
     );
     denied(
         "header image -o open/fixed",

@@ -7,8 +7,8 @@ use std::time::{Duration, Instant};
 use std::{fs, thread};
 use tool::sample::{self, block_start, BLOCK, HEADER, SIGNATURE};
 
-const OWN: &str = "the expected signature length is taken from the header";
-const NOT_APPROVED: &str = "this header has not been approved";
+const OWN: &str = "expected signature length, from the header";
+const NOT_APPROVED: &str = "this is the image's own header, not an approved one";
 
 fn packed(file: &[u8], ids: [u64; 4], block: u64, signature: u64) -> Vec<u8> {
     let sizes = sbs::Packing::judge(file.len(), ids, block, signature).unwrap();

@@ -16,7 +16,8 @@ use tool::sample;
 /// Every name of standard output.
 const OUT: [&str; 4] = ["/dev/stdout", "/dev/fd/1", "/proc/self/fd/1", "-"];
 
-const ANSWER: &str = "done: a header of 68 bytes\nthis header has not been approved\n";
+const ANSWER: &str =
+    "done: a header of 68 bytes\nthis is the image's own header, not an approved one\n";
 
 /// A refusal that writes nothing, with room for the output.
 const REFUSED: &str = "open image --header table -o";

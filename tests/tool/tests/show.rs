@@ -47,7 +47,10 @@ fn a_sound_image() {
         [count, count, count, length, length]
     );
     let all = format!("the file is good up to byte {length} of {length}");
-    assert_eq!(notes(&json), [&all, "this header has not been approved"]);
+    assert_eq!(
+        notes(&json),
+        [&all, "this is the image's own header, not an approved one"]
+    );
 }
 
 #[test]
@@ -153,7 +156,7 @@ fn every_byte_changed() {
         let json = said.json();
         let is_free = (30..32).contains(&at) || (HEADER..HEADER + SIGNATURE).contains(&at);
         assert_eq!(said.status, i32::from(!is_free), "byte {at}: {said:?}");
-        assert!(notes(&json).contains(&"this header has not been approved"));
+        assert!(notes(&json).contains(&"this is the image's own header, not an approved one"));
         if at >= HEADER + SIGNATURE {
             let block = (at - HEADER - SIGNATURE) / BLOCK;
             let known = (block * DATA).saturating_sub(padding) as u64;

@@ -36,18 +36,21 @@ fn all_bad(cases: &[(&str, &str)]) {
 #[test]
 fn what_is_missing_or_too_much() {
     all_bad(&[
-        ("", "the verb is missing; 'runnelpin --help' lists them"),
+        (
+            "",
+            "the verb is missing; 'runnelpin --help' lists the verbs",
+        ),
         ("--json=", "--json takes no value"),
         (
             "-o out",
-            "the verb is missing; 'runnelpin --help' lists them",
+            "the verb is missing; 'runnelpin --help' lists the verbs",
         ),
         ("pack", "pack: FILE is missing"),
         ("pack file", "pack: -o IMAGE is missing"),
         ("pack file -o", "-o needs a value: IMAGE"),
         (
             "pack file file -o out",
-            "pack: only one FILE can be given: file is one too many",
+            "pack takes only one FILE; file is one too many",
         ),
         ("pack file -o out -o out", "-o is given twice"),
         (
@@ -56,7 +59,7 @@ fn what_is_missing_or_too_much() {
         ),
         (
             "pack file -o out -- -o",
-            "pack: only one FILE can be given: -o is one too many",
+            "pack takes only one FILE; -o is one too many",
         ),
         ("open image -o out", "open: --header FILE is missing"),
         ("load image --header header", "load: --map FILE is missing"),
@@ -78,21 +81,21 @@ fn names_that_are_not_known() {
     all_bad(&[
         (
             "unpack file",
-            "unknown verb: unpack; 'runnelpin --help' lists them",
+            "unknown verb: unpack; 'runnelpin --help' lists the verbs",
         ),
         ("laod image", "unknown verb: laod; did you mean load?"),
         ("sig image", "unknown verb: sig; did you mean signature?"),
         (
             "help unpack",
-            "unknown verb: unpack; 'runnelpin --help' lists them",
+            "unknown verb: unpack; 'runnelpin --help' lists the verbs",
         ),
         (
             "unpack --help",
-            "unknown verb: unpack; 'runnelpin --help' lists them",
+            "unknown verb: unpack; 'runnelpin --help' lists the verbs",
         ),
         (
             "help pack open",
-            "help: only one VERB can be given: open is one too many",
+            "help takes only one VERB; open is one too many",
         ),
         (
             "pack file -o out --blok 96",
@@ -125,11 +128,11 @@ fn names_that_are_not_known() {
         ("--quiet", "unknown option --quiet; see 'runnelpin --help'"),
         (
             "pack file -o out --mode 64",
-            "pack does not take --mode, which is for: load, run",
+            "--mode is not an option of pack, only of load, run",
         ),
         (
             "show file --hash sha256",
-            "show does not take --hash, which is for: pack",
+            "--hash is not an option of show, only of pack",
         ),
     ]);
 }
@@ -175,6 +178,7 @@ fn modes_are_32_and_64() {
     for mode in [
         "33",
         "0",
+        "long",
         "4294967328",
         "0x100000040",
         "18446744073709551615",

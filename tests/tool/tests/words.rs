@@ -214,8 +214,9 @@ fn approved_headers(r: &mut Refusals) {
     let mut header = r.desk.get("header");
     header[30] ^= 1;
     r.desk.put("bad", header);
-    let line = "4, approved header: byte 30 is 00 in the image, but 01 in bad";
-    r.refused("open image --header bad -o out", &format!("{line}{give}"));
+    let line = "4, approved header: byte 30 is 00 in the image, but 01 in bad; \
+                wrong header, or the image was changed";
+    r.refused("open image --header bad -o out", line);
     r.desk.put("cut", &image[..35]);
     let line =
         "4, approved header: the image has only 35 bytes, but a header alone has at least 36";
