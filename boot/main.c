@@ -37,7 +37,7 @@ static struct slice take(uint32_t magic, uint64_t info)
     struct slice header = approved_header(handed.command_line);
 
     if (number == END_PROTOCOL)
-        refuse(END_PROTOCOL, "no memory map: start the stub by PVH or multiboot2");
+        refuse(END_PROTOCOL, "no memory map: start the stub with PVH or multiboot2");
     if (number)
         refuse(END_RANGES, "the memory map has too many ranges");
     if (!is_mapped(handed.image))

@@ -194,7 +194,7 @@ fn other_wrong_words_are_errors() {
         "header 1",
         "number 1",
     ] {
-        refuses(line, "words due: ");
+        refuses(line, "words needed: ");
     }
 }
 

@@ -199,7 +199,7 @@ fn a_signature_that_comes_out_short_is_made_in_another_second() {
     let said = script(&desk, "sign", &["key", "file", "signed"]);
     assert_eq!(said.status, 0, "{said:?}");
     assert!(
-        said.out.ends_with("the signature has 310 bytes\n"),
+        said.out.contains("; the signature has 310 bytes (try "),
         "{said:?}"
     );
 }
@@ -568,7 +568,7 @@ fn refused_in_its_own_words_image() {
     let words = "nothing can't be read";
     refuses(&desk, ring, "nothing", words, "No such file");
     for name in ["none", "short"] {
-        let words = format!("{name} is not a whole image");
+        let words = format!("{name} is not a valid image");
         refuses(&desk, ring, name, &words, &format!("runnelpin: {name}: "));
     }
     let zeros = "image is not signed: its signature field is all zeros";
@@ -588,7 +588,7 @@ fn refused_in_its_own_words_signature() {
     desk.put("cut", &image);
     image[header..header + signature].fill(b'?');
     desk.put("text", &image);
-    let words = "the signature in changed is bad: it does not fit this header";
+    let words = "the signature in changed is bad: it does not match this header";
     refuses(&desk, "public.gpg", "changed", words, "gpgv: BAD signature");
     let words = "the signature in signed is by a key that is not in other.gpg";
     refuses(
@@ -599,7 +599,7 @@ fn refused_in_its_own_words_signature() {
         "gpgv: Can't check signature",
     );
     for name in ["cut", "text"] {
-        let words = format!("gpgv finds no whole, valid signature in {name}");
+        let words = format!("gpgv finds no valid signature in {name}");
         refuses(&desk, "public.gpg", name, &words, "gpgv: ");
     }
 }
