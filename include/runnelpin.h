@@ -12,45 +12,46 @@ extern "C" {
 #endif
 
 /*
- * A call checks every number and byte that it is given, and answers whatever they are; all calls but
- * runnelpin_signature return one of these codes. It cannot check pointers: a slice is a pointer and a length
- * in bytes, and all of these bytes must be there to be read, or to be written where the call writes. A slice
- * may lie at any address, without alignment, and may be NULL where its length is 0. What a call writes to
- * overlaps nothing else that is lent to it, and nothing that is lent changes during the call. Image, header,
- * map and table may overlap.
+ * Each call checks every number and byte that it is given, and answers whatever they are; all calls but
+ * runnelpin_signature return one of the codes below. No call can check pointers: a slice is a pointer and a
+ * length in bytes, and all of these bytes must be there to read, or to write if the call writes to them. A
+ * slice may start at any address, without alignment, and may be NULL if its length is 0. What a call writes to
+ * must not overlap anything else that is lent to it, and nothing that is lent may change during the call.
+ * Image, header, map and table may overlap.
  *
  * For runnelpin_load and runnelpin_open, `header` is the bytes that the security chip approved, never the
  * image's own first bytes. runnelpin_signature is called before approval, with the image's own first bytes,
- * as many as its header size says: what it finds is what the chip then verifies.
+ * as many as runnelpin_stated_header_length says: what it finds is what the chip then verifies.
  *
- * `signature_length` is the signature length to expect, 1 to 4096: the one that `header` states
- * (runnelpin_stated_signature_length), or, where all signatures of the unit's chip have one length, that
- * number; an image with another is then refused.
+ * `signature_length` is the signature length to expect, 1 to 4096. It is the one that `header` states, as
+ * runnelpin_stated_signature_length gives it. If all signatures of the unit's chip have one length, pass that
+ * number instead; an image with any other is then refused with RUNNELPIN_SIGNATURE_LENGTH. For runnelpin_pack
+ * it is the length of the signature field to leave.
  *
- * The calls are for x86-64 and the System V convention. They use general registers, flags and xmm0 to
- * xmm15, so SSE2 is on, and the 128 bytes below the stack pointer, so interrupts are off or handled on
- * another stack. No call takes more than 4 KiB of stack; what each takes stands in docs/STUB.md. They
- * keep no data between calls and need memcpy and memset, nothing else.
+ * The calls are for x86-64 and the System V calling convention. They use the general registers, the flags and
+ * xmm0 to xmm15, so SSE2 must be on, and the 128 bytes below the stack pointer, so interrupts must be off or
+ * handled on another stack. No call takes more than 4 KiB of stack; docs/STUB.md says what each takes. They
+ * keep no data between calls, and need memcpy and memset, nothing else.
  */
 enum {
     RUNNELPIN_DONE = 0,
-    RUNNELPIN_ARGUMENT = 1,          /* record length; mode; signature length not 1..4096; over 2^30 bytes */
+    RUNNELPIN_ARGUMENT = 1,          /* record length, mode, signature length not 1 to 4096, over 2^30 bytes */
     RUNNELPIN_MAP = 2,               /* the map breaks a rule, or memory is not as long as its regions */
     RUNNELPIN_TABLE = 3,             /* the CPUID table breaks a rule, or ends within a record */
-    RUNNELPIN_APPROVED = 4,          /* approved header under 36 bytes, or the image begins otherwise */
+    RUNNELPIN_APPROVED = 4,          /* approved header under 36 bytes, or the image does not begin with it */
     RUNNELPIN_HEADER_MAGIC = 5,
     RUNNELPIN_HASH_ID = 6,           /* one is not supported, or the first is 0 */
-    RUNNELPIN_HASHSUM_LENGTH = 7,    /* not that of all hashes together */
+    RUNNELPIN_HASHSUM_LENGTH = 7,    /* not the length of all hashes together */
     RUNNELPIN_HEADER_SIZE = 8,       /* not 36 + hashsum length, or not the approved header's length */
     RUNNELPIN_SCHEME = 9,            /* signature scheme not 1 */
     RUNNELPIN_SIGNATURE_LENGTH = 10, /* not the expected one */
     RUNNELPIN_BLOCKS = 11,           /* block count, block size or padding out of range */
-    RUNNELPIN_IMAGE_LENGTH = 12,     /* not that of header, signature field and blocks together */
+    RUNNELPIN_IMAGE_LENGTH = 12,     /* not the length of header, signature field and blocks together */
     /* A block; place: its number, from 1. */
     RUNNELPIN_BLOCK_HASHSUM = 13,    /* it does not match */
     RUNNELPIN_BLOCK_PADDING = 14,    /* it is not all zeros */
     RUNNELPIN_LAST_HASH = 15,        /* the last block's hash field is not all zeros */
-    RUNNELPIN_FILE_MAGIC = 16,       /* the command file is under 8 bytes, or begins with another magic */
+    RUNNELPIN_FILE_MAGIC = 16,       /* not a command file: under 8 bytes, or another magic number */
     /* A command; place: the file offset of its first byte. */
     RUNNELPIN_COMMAND_CUT = 17,      /* it runs past the end of the file */
     RUNNELPIN_COMMAND_ID = 18,       /* it is unknown */
@@ -61,16 +62,16 @@ enum {
     RUNNELPIN_CPUID_MISSING = 23,    /* a check, but the table is empty */
     RUNNELPIN_REGISTER = 24,         /* a check's result register is over 3 */
     RUNNELPIN_NO_RECORD = 25,        /* the table has no record with a check's inputs */
-    RUNNELPIN_CHECK_FAILED = 26,     /* a check found another value */
+    RUNNELPIN_CHECK_FAILED = 26,     /* a check found a different value */
     RUNNELPIN_NO_ENTRY = 27,         /* the file has no entry command; place: the file's length */
     RUNNELPIN_EMPTY_FILE = 28,       /* pack: nothing to pack */
-    RUNNELPIN_OUTPUT_LENGTH = 29     /* open, pack: not exactly the length of the result */
+    RUNNELPIN_OUTPUT_LENGTH = 29     /* open, pack: output is not exactly as long as the result */
 };
 
 /*
- * The answer record that open, run and load fill: these 64-bit little-endian numbers, one behind the other.
- * The struct has the same layout, so that one can be lent: (uint8_t *)&answer, sizeof answer. A record of
- * another length gives RUNNELPIN_ARGUMENT, and then nothing is written anywhere.
+ * The answer record that open, run and load fill in: these 64-bit little-endian numbers, one after another.
+ * The struct has the same layout, so lend one: (uint8_t *)&answer, sizeof answer. A record of any other
+ * length gives RUNNELPIN_ARGUMENT, and then nothing is written anywhere.
  */
 #define RUNNELPIN_ANSWER_BYTES 40
 
@@ -83,12 +84,12 @@ struct runnelpin_answer {
 };
 
 /*
- * Where the addresses are: the map is 1 to 16 records of 16 bytes, base and length, little-endian,
- * ascending, not overlapping, with ends at most 2^52. Memory is one contiguous slice: the regions'
- * bytes one behind the other in map order, at most 2^32. The caller keeps image, header, stack and
- * its own code out of every region. The CPUID table is at most 64 records of six 32-bit
- * little-endian words: EAX and ECX inputs, then EAX, EBX, ECX and EDX results, ascending by inputs.
- * Mode is 32 or 64.
+ * The map is the unit's RAM: 1 to 16 records of 16 bytes, base and length of a region, little-endian, in
+ * ascending order, not overlapping, each length at least 1, each end at most 2^52. Memory is one slice: the
+ * bytes of the regions, one region after another in map order, at most 2^32 together. The caller must keep
+ * image, header, map, table, answer record, stack and its own code out of every region. The CPUID table is at
+ * most 64 records of six 32-bit little-endian words, the inputs EAX and ECX, then the results EAX, EBX, ECX and
+ * EDX, in ascending order of the inputs. Mode is 32 or 64: addresses below 2^32 or below 2^52 can be reached.
  */
 
 /* Proves the image block by block and runs its commands: a byte is stored as soon as its block is proved. */
@@ -97,12 +98,12 @@ uint64_t runnelpin_load(const uint8_t *image, size_t image_length, const uint8_t
                         uint64_t mode, uint64_t signature_length, uint8_t *memory, size_t memory_length,
                         uint8_t *answer, size_t answer_length);
 
-/* Runs a command file that stands in no image. */
+/* Runs the commands of a file that is not in an image. */
 uint64_t runnelpin_run(const uint8_t *file, size_t file_length, const uint8_t *map, size_t map_length,
                        const uint8_t *cpuid, size_t cpuid_length, uint64_t mode, uint8_t *memory,
                        size_t memory_length, uint8_t *answer, size_t answer_length);
 
-/* Proves the image block by block and copies out its file; output is exactly as long as the file. */
+/* Proves the image block by block and copies out its file; output must be exactly as long as the file. */
 uint64_t runnelpin_open(const uint8_t *image, size_t image_length, const uint8_t *header, size_t header_length,
                         uint64_t signature_length, uint8_t *output, size_t output_length, uint8_t *answer,
                         size_t answer_length);
@@ -115,12 +116,12 @@ enum {
     RUNNELPIN_SHA2_512 = 4
 };
 
-/* Writes the image of a file, its signature field zero; output is exactly as long as the image. */
+/* Writes the image of a file, with a signature field of zeros; output must be exactly as long as the image. */
 uint64_t runnelpin_pack(const uint8_t *file, size_t file_length, uint64_t id1, uint64_t id2, uint64_t id3,
                         uint64_t id4, uint64_t block_size, uint64_t signature_length, uint8_t *output,
                         size_t output_length);
 
-/* The signature field as a part of the image; start and length are 0 where open would give 1 or 4 to 12. */
+/* Where the signature field is in the image; start and length are 0 if open would refuse with 1 or 4 to 12. */
 struct runnelpin_field {
     uint64_t start;
     uint64_t length;
@@ -130,11 +131,11 @@ struct runnelpin_field runnelpin_signature(const uint8_t *image, size_t image_le
                                            size_t header_length, uint64_t signature_length);
 
 /*
- * Lengths, worked out from numbers and headers. These functions are not part of the library and not proved: the
- * calls judge all that they are given by themselves.
+ * Lengths, worked out from numbers and headers. These functions are not part of the library and are not proved:
+ * the calls check for themselves everything that they are given.
  */
 
-/* A hash's digest; 0 for RUNNELPIN_NO_HASH and for an unknown ID. */
+/* Of a hash's digest; 0 for RUNNELPIN_NO_HASH and for an unknown ID. */
 static inline uint64_t runnelpin_digest_length(uint64_t id)
 {
     switch (id) {
@@ -149,7 +150,7 @@ static inline uint64_t runnelpin_digest_length(uint64_t id)
     }
 }
 
-/* The hashsum that these hashes make together; 0 where one is unknown or the first is RUNNELPIN_NO_HASH. */
+/* Of the hashsum that these hashes make together; 0 if one is unknown or the first is RUNNELPIN_NO_HASH. */
 static inline uint64_t runnelpin_hashsum_length(uint64_t id1, uint64_t id2, uint64_t id3, uint64_t id4)
 {
     uint64_t length1 = runnelpin_digest_length(id1), length2 = runnelpin_digest_length(id2),
@@ -160,8 +161,8 @@ static inline uint64_t runnelpin_hashsum_length(uint64_t id1, uint64_t id2, uint
 }
 
 /*
- * The image of a file: the length that runnelpin_pack's output must have, 0 where it refuses these numbers
- * whatever output it is given.
+ * Of the image of a file, which is the length that runnelpin_pack's output must have; 0 if that call refuses
+ * these numbers with any output.
  */
 static inline uint64_t runnelpin_image_length(uint64_t file_length, uint64_t id1, uint64_t id2, uint64_t id3,
                                               uint64_t id4, uint64_t block_size, uint64_t signature_length)
@@ -186,7 +187,7 @@ static inline uint64_t runnelpin_header_number(const uint8_t *header, size_t at,
     return value;
 }
 
-/* How many of the image's first bytes are its own header, as it states; 0 where the image has fewer bytes. */
+/* Of the image's own header, as it states; 0 if the image is shorter than that. */
 static inline size_t runnelpin_stated_header_length(const uint8_t *image, size_t image_length)
 {
     size_t stated = image_length < 36 ? 0 : (size_t)runnelpin_header_number(image, 16, 2);
@@ -194,8 +195,8 @@ static inline size_t runnelpin_stated_header_length(const uint8_t *image, size_t
 }
 
 /*
- * The signature length that a header states. It is 1 where the header states none from 1 to 4096 or has under 36
- * bytes: that is refused with every expected length, and so for what is wrong with it.
+ * The signature length that a header states, or 1 if it states none from 1 to 4096 or has under 36 bytes. Such a
+ * header is refused whatever length is expected; with 1, the code says what is wrong with it.
  */
 static inline uint64_t runnelpin_stated_signature_length(const uint8_t *header, size_t header_length)
 {
@@ -204,8 +205,8 @@ static inline uint64_t runnelpin_stated_signature_length(const uint8_t *header, 
 }
 
 /*
- * The file in an image with this header: the length that runnelpin_open's output must have, 0 where it refuses
- * this header whatever else it is given.
+ * Of the file in an image with this header, which is the length that runnelpin_open's output must have; 0 if that
+ * call refuses this header whatever else it is given.
  */
 static inline uint64_t runnelpin_file_length(const uint8_t *header, size_t header_length)
 {
