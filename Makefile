@@ -18,7 +18,7 @@ help: ## print this
 demo: ## the main job step by step, from the build to a refused image
 	@tools/demo
 
-test: ## everything from nothing: proofs, must-fail edits, Rust tests, comparisons; ends in 'N passed, M failed'
+test: ## everything from scratch: proofs, must-fail edits, Rust tests, comparisons; ends in 'N passed, M failed'
 	@tools/test
 
 prove: ## prove what has changed since it was last proved, and run the Rattle programs
@@ -33,7 +33,7 @@ archives: build/librunnelpin.a ## build/libNAME.a of each crate that exports cal
 build/librunnelpin.a: crates.txt $(shell find crates)
 	@tools/archives
 
-tool: build/runnelpin ## build/runnelpin, the command-line tool; 'man ./docs/runnelpin.1' tells of it
+tool: build/runnelpin ## build/runnelpin, the command-line tool; 'man ./docs/runnelpin.1' is its manual
 
 TOOL_PARTS = build/librunnelpin.a include/runnelpin.h $(wildcard tool/*.[ch] common/*.[ch])
 TOOL = $(CC) -std=c99 -pthread -Wall -Wextra -Werror -Iinclude -Icommon $(CPPFLAGS) $(CFLAGS) $(WATCH) -o $@ \
@@ -77,5 +77,5 @@ boot-grub: tool ## the same from an ISO with GRUB
 	@DAMAGED='$(DAMAGED)' tools/boot grub
 
 # An older archive is one whose calls have the same parameters, with its libprobe.a beside it.
-bench: archives ## the library's speed against plain Rust, and OpenSSL where it is; OLD=FOLDER/librunnelpin.a: against that
+bench: archives ## the library's speed against plain Rust, and OpenSSL if installed; OLD=FOLDER/librunnelpin.a: against that too
 	@cd tests && OLD='$(abspath $(OLD))' cargo run --quiet --release -p compare $(if $(OLD),--features old) --bin bench

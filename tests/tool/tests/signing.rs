@@ -650,7 +650,7 @@ fn readmes_lines_sign_and_approve() {
     let line = format!("{{ {conf}; }} >\"$GNUPGHOME/gpg.conf\" && sh -e ./lines");
     let said = script(&desk, "with-key", &["sh", "-c", &line]);
     assert_eq!(said.status, 0, "{said:?}");
-    assert_eq!(desk.get("route.header"), desk.get("route.sbs")[..68]);
+    assert_eq!(desk.get("approved"), desk.get("route.sbs")[..68]);
     assert!(
         said.err.contains("Good signature from \"Workshop\""),
         "{said:?}"
