@@ -77,5 +77,5 @@ boot-grub: tool ## the same from an ISO with GRUB
 	@DAMAGED='$(DAMAGED)' tools/boot grub
 
 # An older archive is one whose calls have the same parameters, with its libprobe.a beside it.
-bench: archives ## the library's speed against plain Rust, and OpenSSL if installed; OLD=FOLDER/librunnelpin.a: against that too
+bench: archives ## the library's speed against plain Rust, and OpenSSL if there; OLD=FOLDER/librunnelpin.a: against that
 	@cd tests && OLD='$(abspath $(OLD))' cargo run --quiet --release -p compare $(if $(OLD),--features old) --bin bench
