@@ -64,8 +64,7 @@ uint64_t map_total(struct list map, struct text *fault)
     }
     if (total <= MOST_MEMORY)
         return total;
-    say(fault, "the regions of %s have %" PRIu64 " bytes together, but at most %" PRIu64 " (2^32) are allowed", map.path,
-        total, (uint64_t)MOST_MEMORY);
+    say(fault, "the regions of %s have %" PRIu64 " bytes together, over the limit of 2^32", map.path, total);
     return 0;
 }
 

@@ -33,7 +33,7 @@ int job_signature(const struct request *request)
     if (part.length) {
         struct bytes signature = {c->image.at + part.start, part.length};
         give_output(&r, signature);
-        say(&r.words, "done: a signature field of %" PRIu64 " byte%s, from image byte %" PRIu64, part.length,
+        say(&r.words, "done: a signature field of %" PRIu64 " byte%s, at image offset %" PRIu64, part.length,
             plural(part.length), part.start);
     } else {
         c->answer.code = judge_image(c->image, c->header, c->signature_length);

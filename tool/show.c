@@ -173,7 +173,8 @@ static void list_signature(const struct call *c)
     while (at < end && !c->image.at[at])
         at++;
     list_truth("signature_is_zero", at == end,
-               at == end ? "signature field: all zeros, so the image is not signed" : "signature field: not zero");
+               at == end ? "signature field: all zeros, so the image is not signed"
+                         : "signature field: not all zeros; show does not verify it");
 }
 
 static void show_image(struct report *r)

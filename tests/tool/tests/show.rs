@@ -325,7 +325,7 @@ fn whether_the_signature_field_is_zero() {
         assert!(desk
             .run("show image")
             .out
-            .contains("\nsignature field: not zero\n"));
+            .contains("\nsignature field: not all zeros; show does not verify it\n"));
         assert_eq!(is_zero(), Value::Word("false".to_string()));
     }
     desk.put("image", &image[..HEADER + SIGNATURE - 1]);

@@ -147,7 +147,10 @@ fn large_inputs(r: &mut Refusals) {
 fn maps(r: &mut Refusals) {
     r.desk.put("three", "abc");
     for (map, line) in [
-        ("# none\n", "unit.map has no regions, but needs at least one"),
+        (
+            "# none\n",
+            "unit.map has no regions, but needs at least one",
+        ),
         (
             "0 1\n\n# second\n0x5 0x0\n",
             "unit.map, line 4: the region 0x5 0x0 has length 0",
@@ -166,14 +169,20 @@ fn maps(r: &mut Refusals) {
         ),
         (
             "0 0x100000000\n0x100000000 1\n",
-            "the regions of unit.map have 4294967297 bytes together, but at most 4294967296 (2^32) are allowed",
+            "the regions of unit.map have 4294967297 bytes together, over the limit of 2^32",
         ),
-        ("0 1\n", "three has 3 bytes, but the regions of unit.map have 1"),
+        (
+            "0 1\n",
+            "three has 3 bytes, but the regions of unit.map have 1",
+        ),
     ] {
         r.desk.put("unit.map", map);
         let line = format!("2, map: {line}");
         r.refused("run file --map unit.map --memory three", &line);
-        r.refused("load image --header header --map unit.map --memory three", &line);
+        r.refused(
+            "load image --header header --map unit.map --memory three",
+            &line,
+        );
     }
     let many: String = (0..17).map(|i| format!("{i} 1\n")).collect();
     r.desk.put("unit.map", many);
@@ -345,7 +354,7 @@ fn blocks(r: &mut Refusals) {
     image[block_start(3) + 1] ^= 1;
     r.desk.put("image", image);
     let line = "13, block hashsum: it does not match, so the block is not the one that was packed; block 3 of 4, \
-                from image byte 268; proved file bytes: 110 of 238; command 3, at file offset 88, is cut off there: \
+                at image offset 268; proved file bytes: 110 of 238; command 3, at file offset 88, is cut off there: \
                 CPUID check with 88 bytes of data";
     let words = "load image --header header --map map --cpuid table";
     let done = "; commands done 2, bytes stored 316, entry 0";
@@ -353,12 +362,12 @@ fn blocks(r: &mut Refusals) {
     r.refused("open image --header header -o out", line);
     r.refused("show image", line);
     r.desk = changed(block_start(1) + 32);
-    let line = "14, block padding: it is not all zeros; block 1 of 4, from image byte 76; \
+    let line = "14, block padding: it is not all zeros; block 1 of 4, at image offset 76; \
                 proved file bytes: 0 of 238; commands done 0, bytes stored 0, entry 0";
     r.refused(words, line);
     r.desk = changed(block_start(4));
     let line =
-        "15, last block: its hash field is not all zeros; block 4 of 4, from image byte 364; \
+        "15, last block: its hash field is not all zeros; block 4 of 4, at image offset 364; \
                 proved file bytes: 174 of 238; command 3, at file offset 88, is cut off there: \
                 CPUID check with 88 bytes of data";
     r.refused(words, &format!("{line}{done}"));
@@ -674,7 +683,7 @@ fn one_of_a_thing_is_not_several() {
     );
     let field = desk.run("signature image --header header -o out").out;
     assert!(
-        field.starts_with("done: a signature field of 1 byte, from"),
+        field.starts_with("done: a signature field of 1 byte, at"),
         "{field}"
     );
     assert_eq!(desk.run("copy one -o out").out, "done: 1 byte copied\n");
