@@ -4,6 +4,7 @@
 #include "help.h"
 #include "near.h"
 #include "numbers.h"
+#include "print.h"
 #include "text.h"
 #include "words.h"
 
@@ -137,6 +138,8 @@ struct request read_request(char **words, const struct job *jobs, size_t count)
     if (seen.has[OPTION_JSON])
         fail_in_json(is_help(seen.operands[0]) ? NULL : seen.operands[1]);
     tell(&seen, jobs, count);
+    if (seen.is_for_output)
+        answer_on(stderr);
     for (struct word word = next_word(&line); word.text; word = next_word(&line)) {
         if (word.option == NO_OPTION)
             take_operand(&request, word.text, jobs, count);

@@ -70,7 +70,9 @@ static void say_other_header(struct text *text, const struct call *c, const char
         say(text, ", but a header has at least %d", LEAST_HEADER);
     else
         say(text, ", but the image only %zu", c->image.length);
-    say(text, "; give the header that was approved for this image");
+    int is_cut = c->header.length >= LEAST_HEADER && same == c->image.length &&
+                 c->image.length < field(c->header.at, FIELD_HEADER_SIZE);
+    say(text, "; %s", is_cut ? "the image is cut off" : "give the header that was approved for this image");
 }
 
 static void say_approved(struct text *text, const struct call *c)

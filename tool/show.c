@@ -161,13 +161,13 @@ static void list_kind(const char *name, struct bytes all)
         list_number("length", all.length);
 }
 
-/* Whether the signature field is all zeros, where the image has all of it. */
+/* Whether the signature field is all zeros, where the image has all of it, and the header agrees where it begins. */
 static void list_signature(const struct call *c)
 {
     if (c->header.length < LEAST_HEADER)
         return;
     uint64_t start = field(c->header.at, FIELD_HEADER_SIZE), end = start + c->signature_length, at = start;
-    if (start < LEAST_HEADER || end > c->image.length ||
+    if (start != LEAST_HEADER + field(c->header.at, FIELD_HASHSUM_LENGTH) || end > c->image.length ||
         field(c->header.at, FIELD_SIGNATURE_LENGTH) != c->signature_length)
         return;
     while (at < end && !c->image.at[at])

@@ -51,9 +51,10 @@ struct word next_word(struct words *words)
 struct glance look_over(char **words)
 {
     struct words line = {words, 0};
-    struct glance seen = {{0}, {NULL}};
+    struct glance seen = {{0}, 0, {NULL}};
     size_t operands = 0;
     for (struct word word = next_word(&line); word.text; word = next_word(&line)) {
+        seen.is_for_output |= word.option == OPTION_OUTPUT && word.value && !strcmp(word.value, "-");
         if (word.option < OPTIONS)
             seen.has[word.option] |= !word.value;
         else if (word.option == UNKNOWN_OPTION)

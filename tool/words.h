@@ -23,9 +23,12 @@ struct word next_word(struct words *words);
 
 enum { MOST_OPERANDS = 3 };
 
-/* What counts wherever it stands, whatever else is wrong: the options without a value, and the first other words. */
+/*
+ * What counts wherever it stands, whatever else is wrong: the options without a value, whether the result is for
+ * standard output, and the first other words.
+ */
 struct glance {
-    int has[OPTIONS];
+    int has[OPTIONS], is_for_output;
     const char *operands[MOST_OPERANDS]; /* verb, file, and one too many; NULL where there are fewer */
 };
 

@@ -24,7 +24,8 @@ fn lines(desk: &Desk, shell: &str, lines: &str) -> Said {
     desk.shell(&format!("{shell} ./script"))
 }
 
-/// The builder's bytes, but reserved ones are zero: in a command's header, behind a fill's pattern and a check's register.
+/// The builder's bytes, but reserved ones are zero: in a command's header, behind a fill's pattern and a check's
+/// register.
 fn spelled(file: File) -> Vec<u8> {
     let (mut bytes, mut at) = (file.0, 8);
     while at < bytes.len() {
@@ -157,7 +158,8 @@ fn a_number_too_wide_for_its_field_is_an_error() {
         }
     }
     for word in ["256", "0x1ff"] {
-        refuses(&format!("fill 0 1 {word}"), word);
+        let words = format!("{word} is too large for the 1-byte field");
+        refuses(&format!("fill 0 1 {word}"), &words);
     }
     refuses("header 65536 0", "65536");
     refuses("number 65536 2", "65536");

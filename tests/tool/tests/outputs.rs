@@ -115,6 +115,23 @@ fn with_the_result_on_standard_output_the_answer_is_said_once_on_the_other() {
     }
 }
 
+/// Whatever is wrong with the command line, and wherever in it.
+#[test]
+fn with_the_result_on_standard_output_usage_errors_are_said_on_the_other() {
+    let desk = sample::desk();
+    for words in [
+        "copy --blok map -o -",
+        "copy map -o- --mode 32",
+        "run file -o - --map map --mode 5",
+    ] {
+        let said = desk.run(&format!("{words} --json"));
+        assert_eq!((said.status, said.out.as_str()), (2, ""), "{said:?}");
+        let json = Value::read(&said.err).unwrap_or_else(|| panic!("{said:?}"));
+        assert_eq!(json["status"].number(), 2);
+    }
+    assert!(desk.run("pack -o - --help").out.starts_with("usage: "));
+}
+
 #[test]
 fn a_result_on_standard_error_stands_there_alone() {
     let desk = sample::desk();

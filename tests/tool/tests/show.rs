@@ -328,9 +328,13 @@ fn whether_the_signature_field_is_zero() {
             .contains("\nsignature field: not all zeros; show does not verify it\n"));
         assert_eq!(is_zero(), Value::Word("false".to_string()));
     }
-    desk.put("image", &image[..HEADER + SIGNATURE - 1]);
-    let said = desk.run("show image --json");
-    assert!(said.json().get("signature_is_zero").is_none(), "{said:?}");
+    let mut elsewhere = image.clone();
+    field::set(&mut elsewhere, field::HEADER_SIZE, HEADER as u64 + 1);
+    for unknown in [&image[..HEADER + SIGNATURE - 1], &elsewhere] {
+        desk.put("image", unknown);
+        let said = desk.run("show image --json");
+        assert!(said.json().get("signature_is_zero").is_none(), "{said:?}");
+    }
 }
 
 /// In text a hash has its number and its name.

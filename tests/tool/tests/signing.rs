@@ -428,6 +428,21 @@ fn standard_input_is_read_once() {
     }
 }
 
+#[test]
+fn the_keyring_can_be_standard_input() {
+    let desk = stand_ins();
+    for name in ["-", "/dev/stdin"] {
+        let words = [name, "signed"];
+        let line = Job { words, ..APPROVE }.line("got");
+        let said = shell(&desk, &format!("cat ring | {line}"));
+        assert_eq!(said.status, 0, "{line}: {said:?}");
+        assert_eq!(desk.get("got"), desk.get("approved"), "{line}");
+    }
+    let said = shell(&desk, "cat ring signed | \"$tools/approve\" - - other");
+    assert_eq!(said.status, 2, "{said:?}");
+    assert_eq!(said.err, "approve: standard input can be given only once\n");
+}
+
 /// A gpg or gpgv that waits until it is told to go on, for a minute at most.
 const WAITING: &str = "#!/bin/sh
 echo >started
@@ -456,7 +471,16 @@ fn send(desk: &Desk, signal: &str, child: &Child) {
 #[test]
 fn a_signal_ends_it_at_once_and_the_work_folder_goes() {
     for job in [SIGN, APPROVE] {
-        for (signal, status) in [("HUP", 129), ("INT", 130), ("TERM", 143)] {
+        for (signal, status) in [
+            ("HUP", 129),
+            ("INT", 130),
+            ("QUIT", 131),
+            ("USR1", 138),
+            ("USR2", 140),
+            ("ALRM", 142),
+            ("TERM", 143),
+            ("XCPU", 152),
+        ] {
             let desk = stand_ins();
             let mut child = start_waiting(&desk, &job, "--default-signal");
             assert!(!folder_is_empty(&desk, "tmp"));
@@ -494,6 +518,24 @@ fn the_work_folder_goes_where_nobody_reads_the_words() {
         let said = shell(&desk, &line);
         assert_eq!(said.status, 128 + 13, "{said:?}");
         assert!(folder_is_empty(&desk, "tmp"), "{}", job.script);
+    }
+}
+
+/// A mktemp that has the script which started it ended, with the folder just made.
+const ENDING_SOON: &str = "#!/bin/sh
+kill -TERM $PPID
+command -p mktemp \"$@\"
+";
+
+#[test]
+fn a_signal_at_the_very_start_ends_it_too() {
+    for job in [SIGN, APPROVE] {
+        let desk = stand_ins();
+        put_command(&desk, "mktemp", ENDING_SOON);
+        let found = job.start(&desk, "--default-signal").wait();
+        assert_eq!(found.unwrap().code(), Some(143), "{}", job.script);
+        assert!(folder_is_empty(&desk, "tmp"), "{}", job.script);
+        assert!(!desk.has("target"), "{}", job.script);
     }
 }
 
@@ -622,6 +664,11 @@ fn what_cant_be_signed() {
     assert!(err.contains("refused: 28, "), "{err}");
     let err = cant_sign(&desk, &["key", "file", "new", "--blok", "512"], 2);
     assert!(err.contains("--blok"), "{err}");
+    for option in ["--signature", "--signature=310", "-o", "-oother"] {
+        let err = cant_sign(&desk, &["key", "file", "new", option, "310"], 2);
+        let words = format!("sign: leave out {option}, which sign itself gives to pack\n");
+        assert_eq!(err, words);
+    }
     let said = shell(&desk, "RUNNELPIN=./no-tool \"$tools/sign\" key file new");
     assert_eq!(said.status, 1, "{said:?}");
     let words = "sign: ./no-tool is missing (";
@@ -629,6 +676,26 @@ fn what_cant_be_signed() {
     put_command(&desk, "gpg", "#!/bin/sh\nexit 2\n");
     let err = cant_sign(&desk, &["nobody", "file", "new"], 1);
     assert_eq!(err, "sign: gpg made no signature with the key nobody\n");
+}
+
+/// It is signed, as it is packed; and the note that it can't be loaded is passed on.
+#[test]
+fn what_is_no_command_file_is_called_so() {
+    let desk = stand_ins();
+    for (file, words) in [
+        ("ring", "sign: the file is not a command file "),
+        ("file", ""),
+    ] {
+        let named = ["key", file];
+        let said = Job {
+            words: named,
+            ..SIGN
+        }
+        .run(&desk, "target");
+        assert_eq!(said.status, 0, "{said:?}");
+        assert!(said.err.starts_with(words), "{said:?}");
+        assert_eq!(said.err.is_empty(), words.is_empty(), "{said:?}");
+    }
 }
 
 /// README's lines as they stand, with keys that have no passphrase.

@@ -220,6 +220,10 @@ fn approved_headers(r: &mut Refusals) {
     r.desk.put("bad", [&image[..], b"more"].concat());
     let line = "4, approved header: bad has 464 bytes, but the image only 460";
     r.refused("open image --header bad -o out", &format!("{line}{give}"));
+    r.desk.put("cut", &image[..HEADER - 1]);
+    let line =
+        "4, approved header: header has 68 bytes, but the image only 67; the image is cut off";
+    r.refused("open cut --header header -o out", line);
     let mut header = r.desk.get("header");
     header[30] ^= 1;
     r.desk.put("bad", header);
