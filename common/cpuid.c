@@ -42,9 +42,6 @@ static int has_sub_leaf(uint32_t leaf, uint32_t sub_leaf)
 
 static void add(struct cpuid_table *table, uint32_t leaf, uint32_t sub_leaf)
 {
-    uint32_t *record = table->records[table->count];
-    struct result r = cpuid(leaf, sub_leaf);
-
     if (table->count == MOST_RECORDS) {
         if (!table->left_out++) {
             table->leaf = leaf;
@@ -52,7 +49,8 @@ static void add(struct cpuid_table *table, uint32_t leaf, uint32_t sub_leaf)
         }
         return;
     }
-    table->count++;
+    uint32_t *record = table->records[table->count++];
+    struct result r = cpuid(leaf, sub_leaf);
     record[0] = leaf;
     record[1] = sub_leaf;
     record[2] = r.eax;

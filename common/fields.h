@@ -2,7 +2,6 @@
 #ifndef FIELDS_H
 #define FIELDS_H
 
-#include <stddef.h>
 #include <stdint.h>
 
 /* A header has at least so many bytes: all of its fields. */

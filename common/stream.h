@@ -6,7 +6,8 @@
 #include <stdint.h>
 
 struct stream {
-    const uint8_t *at;
+    const uint8_t *at;                         /* the file or image */
+    uint64_t start;                            /* of the file or the first block in it */
     uint64_t length;                           /* of the file */
     uint64_t known;                            /* how many bytes count: those of proved blocks */
     uint64_t block_size, hash_length, padding; /* of the blocks that hold the file */

@@ -44,7 +44,7 @@ static void say_block(struct text *text, const struct call *c)
     uint64_t block = c->answer.place;
     file.known = bytes_before_block(&file, block);
     say(text, "; block %" PRIu64 " of %" PRIu64 ", at image offset %" PRIu64, block,
-        field(c->image.at, FIELD_BLOCK_COUNT), (uint64_t)(file.at - c->image.at) + (block - 1) * file.block_size);
+        field(c->image.at, FIELD_BLOCK_COUNT), file.start + (block - 1) * file.block_size);
     say(text, "; proved file bytes: %" PRIu64 " of %" PRIu64, file.known, file.length);
     say_command_reached(text, &file);
 }

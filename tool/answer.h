@@ -28,7 +28,7 @@ struct call {
 /* A call that was given nothing yet; what it doesn't take stays so. */
 struct call new_call(const struct request *request);
 
-/* Whether a refusal is of the file that the subcommand is given. One of map or table names its own file. */
+/* Whether a refusal is of the file that the verb is given. One of map or table names its own file. */
 int is_of_operand(const struct call *call);
 
 /* A refusal: its number, its one cause, its place, the command there and its address. */

@@ -2,8 +2,10 @@
 #ifndef ARGS_H
 #define ARGS_H
 
-#include "bytes.h"
 #include "options.h"
+
+#include <stddef.h>
+#include <stdint.h>
 
 struct request;
 

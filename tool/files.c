@@ -33,12 +33,22 @@ int is_one_file(const struct stat *one, const struct stat *other)
     return one->st_dev == other->st_dev && one->st_ino == other->st_ino;
 }
 
-int can_try_again(int file, short event)
+/* After a read or write that failed: whether it can be tried again, once the file is ready where that was amiss. */
+static int can_try_again(int file, short event)
 {
     struct pollfd ready = {file, event, 0};
     if (errno == EAGAIN) /* a standard file may be set so by others */
         poll(&ready, 1, -1);
     return errno == EINTR || errno == EAGAIN;
+}
+
+ssize_t write_some(int file, const uint8_t *at, size_t length)
+{
+    ssize_t done;
+    do
+        done = write(file, at, length);
+    while (done < 0 && can_try_again(file, POLLOUT));
+    return done;
 }
 
 static uint64_t lesser(uint64_t one, uint64_t other)

@@ -1,10 +1,11 @@
-/* Files read, by the names that a command line has for them. */
+/* Files, by the names that a command line has for them. */
 #ifndef FILES_H
 #define FILES_H
 
 #include "bytes.h"
 
 #include <sys/stat.h>
+#include <sys/types.h>
 
 /* What `-` is called from here on. A path is one of these by its address: a file may have such a name, too. */
 extern const char standard_input[], standard_output[];
@@ -15,8 +16,8 @@ void hold_standard_files(void);
 /* Whether both are of the same file, pipe, socket or device, whatever it is called. */
 int is_one_file(const struct stat *one, const struct stat *other);
 
-/* After a read or write that failed: whether it can be tried again, once the file is ready where that was amiss. */
-int can_try_again(int file, short event);
+/* Writes up to `length` bytes, and waits for a file that others have set not to wait; -1 where it can't be written. */
+ssize_t write_some(int file, const uint8_t *at, size_t length);
 
 /*
  * The bytes of a file, pipe or device. One longer than `most` gives `most` + 1 bytes: they begin with its own, at

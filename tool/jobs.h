@@ -1,4 +1,4 @@
-/* The subcommands. Each does its job, prints the answer and gives the exit status. */
+/* The verbs. Each does its job, prints the answer and gives the exit status. */
 #ifndef JOBS_H
 #define JOBS_H
 

@@ -79,7 +79,7 @@ static void read_line(struct list *list, const struct reading *r, const char *st
 }
 
 /* The file's text, without the byte order mark that some editors put before it. */
-static struct reading begin_reading(const char *path, const struct form *form)
+static struct reading begin_text(const char *path, const struct form *form)
 {
     static const char mark[] = "\xef\xbb\xbf";
     struct bytes text = read_file(path, MOST_TEXT);
@@ -104,7 +104,7 @@ static struct list new_list(const struct reading *r)
 
 static struct list read_list(const char *path, const struct form *form)
 {
-    struct reading r = begin_reading(path, form);
+    struct reading r = begin_text(path, form);
     struct list list = new_list(&r);
     for (; r.at < r.end; r.line++) {
         const char *stop = memchr(r.at, '\n', (size_t)(r.end - r.at));

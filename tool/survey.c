@@ -3,9 +3,9 @@
 /* How many blocks of those that the header counts the image has whole. */
 static uint64_t whole_blocks(struct bytes image)
 {
-    uint64_t before = field(image.at, FIELD_HEADER_SIZE) + field(image.at, FIELD_SIGNATURE_LENGTH);
-    uint64_t blocks = field(image.at, FIELD_BLOCK_COUNT), size = field(image.at, FIELD_BLOCK_SIZE);
-    uint64_t whole = image.length < before ? 0 : (image.length - before) / size;
+    struct stream file = stream_of_image(image.at);
+    uint64_t blocks = field(image.at, FIELD_BLOCK_COUNT);
+    uint64_t whole = image.length < file.start ? 0 : (image.length - file.start) / file.block_size;
     return whole < blocks ? whole : blocks;
 }
 

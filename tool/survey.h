@@ -2,7 +2,6 @@
 #ifndef SURVEY_H
 #define SURVEY_H
 
-#include "answer.h"
 #include "image.h"
 
 struct survey {

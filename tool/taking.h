@@ -1,4 +1,4 @@
-/* What several subcommands do alike: reading what a call is given, writing what it gave. */
+/* What several verbs do alike: reading what a call is given, writing what it gave. */
 #ifndef TAKING_H
 #define TAKING_H
 

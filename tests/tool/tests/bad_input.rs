@@ -119,7 +119,7 @@ fn lists() {
     assert_eq!(desk.run("run file --map list --cpuid table").status, 0);
 }
 
-/// Each file that a subcommand reads.
+/// Each file that a verb reads.
 const READS: [&str; 11] = [
     "pack ? -o out",
     "open ? --header header -o out",

@@ -24,8 +24,7 @@ fn lines(desk: &Desk, shell: &str, lines: &str) -> Said {
     desk.shell(&format!("{shell} ./script"))
 }
 
-/// The builder's bytes, but reserved ones are zero: in a command's header, behind a fill's pattern and a check's
-/// register.
+/// The builder's bytes, but reserved ones are zero: in a header, behind a fill's pattern and a check's register.
 fn spelled(file: File) -> Vec<u8> {
     let (mut bytes, mut at) = (file.0, 8);
     while at < bytes.len() {

@@ -1,10 +1,11 @@
-//! Each subcommand, its defaults, and where its output goes.
+//! Each verb, its defaults, and where its output goes.
 
 use second::cases::run_lines::File;
 use second::sbs::{self, field};
-use std::os::unix::fs::{symlink, PermissionsExt};
+use std::os::unix::fs::{symlink, MetadataExt, PermissionsExt};
 use std::time::{Duration, Instant};
 use std::{fs, thread};
+use tool::desk::{self, Desk};
 use tool::sample::{self, block_start, BLOCK, HEADER, SIGNATURE};
 
 const OWN: &str = "expected signature length, from the header";
@@ -237,6 +238,46 @@ fn an_output_keeps_its_mode_and_a_link_stays_one() {
     );
     let mode = fs::metadata(desk.path("new")).unwrap().permissions().mode();
     assert_eq!(mode & 0o777, 0o640);
+}
+
+/// Owner, group and mode.
+fn rights(desk: &Desk, name: &str) -> (u32, u32, u32) {
+    let about = fs::metadata(desk.path(name)).unwrap();
+    (about.uid(), about.gid(), about.mode() & 0o7777)
+}
+
+/// The new file may be another's, so a bit that lends its owner's rights would lend other ones than before.
+#[test]
+fn an_output_lends_nobodys_rights() {
+    let desk = sample::desk();
+    desk.put("there", "old");
+    fs::set_permissions(desk.path("there"), fs::Permissions::from_mode(0o6755)).unwrap();
+    assert_eq!(desk.run("copy image -o there").status, 0);
+    assert_eq!(rights(&desk, "there").2, 0o755);
+}
+
+#[test]
+fn an_output_keeps_its_owner_and_gives_no_other_group_rights() {
+    let desk = sample::desk();
+    let made = desk.shell("echo old >theirs && chown 65533:65532 theirs && chmod 640 theirs");
+    if made.status != 0 {
+        return; // only root gives files away
+    }
+    assert_eq!(desk.run("copy image -o theirs").status, 0);
+    assert_eq!(rights(&desk, "theirs"), (65533, 65532, 0o640));
+    let as_another = "setpriv --reuid=65531 --regid=65530 --clear-groups";
+    let tool = desk::tool().display().to_string();
+    if desk
+        .shell(&format!("{as_another} '{tool}' --version"))
+        .status
+        != 0
+    {
+        return; // no setpriv, or the tool is in a folder of root's
+    }
+    let line =
+        format!("chmod 777 . && chmod 666 theirs && {as_another} '{tool}' copy image -o theirs");
+    assert_eq!(desk.shell(&line).status, 0);
+    assert_eq!(rights(&desk, "theirs"), (65531, 65530, 0o606));
 }
 
 /// Ended while it writes: the new file beside the target goes, and the old target stays.

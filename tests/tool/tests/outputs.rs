@@ -333,21 +333,11 @@ fn partial_needs_an_output() {
     );
 }
 
-/// Nothing of the help is lost unsaid.
-#[test]
-fn help_on_a_full_disk_is_an_error() {
-    let desk = sample::desk();
-    let said = desk.shell("runnelpin --help >/dev/full");
-    assert_eq!(said.status, 2, "{said:?}");
-    assert!(said
-        .err
-        .starts_with("runnelpin: standard output can't be written: "));
-}
-
-/// A tool that has made its new file and waits for memory from a pipe.
+/// A tool that has made its new file and waits for memory from a pipe. `before` is a line up to `exec`, which says
+/// what is ignored: that differs with how the tests are started.
 fn waiting(desk: &Desk, before: &str) -> Child {
     let words = "run file --map map --cpuid table --memory pipe -o out";
-    let line = format!("{before} exec '{}' {words}", desk::tool().display());
+    let line = format!("{before} '{}' {words}", desk::tool().display());
     let mut command = Command::new("sh");
     command.args(["-c", &line]).current_dir(desk.path(""));
     let mut child = command.stdout(Stdio::null()).spawn().unwrap();
@@ -382,7 +372,7 @@ fn every_signal_that_ends_the_tool_removes_the_new_file() {
     ok(&desk.shell("mkfifo pipe"));
     desk.put("out", "old");
     for number in ENDING {
-        let mut child = waiting(&desk, "ulimit -c 0;");
+        let mut child = waiting(&desk, "ulimit -c 0; exec env --default-signal");
         signal(&child, number);
         assert_eq!(child.wait().unwrap().signal(), Some(number));
         assert!(!is_unfinished(&desk), "{number}");
@@ -395,7 +385,7 @@ fn ignored_signals_stay_ignored() {
     let desk = sample::desk();
     ok(&desk.shell("mkfifo pipe"));
     desk.put("memory", vec![7; 12_288]);
-    let mut child = waiting(&desk, "trap '' HUP INT TERM QUIT USR1;");
+    let mut child = waiting(&desk, "trap '' HUP INT TERM QUIT USR1; exec");
     for number in [1, 2, 15, 3, 10] {
         signal(&child, number);
     }

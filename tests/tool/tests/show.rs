@@ -368,3 +368,45 @@ fn large_numbers_are_strings() {
         .out
         .contains("\"address\":\"18446744073709551615\",\"count\":9007199254740992,"));
 }
+
+/// Files that are refused at their last command, each for something else.
+fn refused_files() -> [Vec<u8>; 7] {
+    let stored = || File::new().write(0x1000, b"stored");
+    [
+        stored().says(0, 1000, &[7; 60]),
+        stored().says(9, 8, &[7; 60]),
+        stored().says(1, 25, &[7; 60]),
+        stored().write(0x1ff0, &[9; 60]),
+        stored().fill(0x3000, 5, 6),
+        stored().check([2, 1, 3, 4], 0, Some(5)),
+        stored(),
+    ]
+    .map(|file| file.0)
+}
+
+/// With other bytes in them, everything that is said stays the same.
+#[test]
+fn of_blocks_that_are_not_proved_nothing_is_told() {
+    let desk = sample::desk();
+    for file in refused_files() {
+        desk.put("refused", file);
+        let said = desk.run("pack refused -o bad --hash sha256 --block 37 --signature 8");
+        assert_eq!(said.status, 0, "{said:?}");
+        let image = desk.get("bad");
+        desk.put("header", &image[..HEADER]);
+        for start in (block_start(1)..image.len()).step_by(37) {
+            let [zeros, ones] = [0, 0xff].map(|byte| {
+                desk.put(
+                    "bad",
+                    [&image[..start], &vec![byte; image.len() - start]].concat(),
+                );
+                let load = "load bad --header header --map map";
+                [load, "show bad", "show bad --json"].map(|words| {
+                    let said = desk.run(words);
+                    (said.status, said.out, said.err)
+                })
+            });
+            assert_eq!(zeros, ones, "from byte {start} on");
+        }
+    }
+}
