@@ -25,6 +25,17 @@ static void say_file_magic(struct text *text, const struct call *c)
         say(text, "; this is an image: use load");
 }
 
+/* How much is missing, if the command's header is there to tell. */
+static void say_cut(struct text *text, const struct call *c)
+{
+    uint64_t left = commands_of(c).length - c->answer.place;
+    uint64_t missing = left < COMMAND_HEADER ? 0 : refused_command(c).length - (left - COMMAND_HEADER);
+    if (missing)
+        say(text, "it runs %" PRIu64 " byte%s past the end of the file", missing, plural(missing));
+    else
+        say(text, "it runs past the end of the file");
+}
+
 static void say_data_length(struct text *text, const struct call *c)
 {
     struct command command = refused_command(c);
@@ -96,6 +107,7 @@ cause *command_cause(uint64_t code)
 {
     static cause *const causes[] = {
         [RUNNELPIN_FILE_MAGIC] = say_file_magic,
+        [RUNNELPIN_COMMAND_CUT] = say_cut,
         [RUNNELPIN_COMMAND_LENGTH] = say_data_length,
         [RUNNELPIN_NOT_REACHABLE] = say_reach,
         [RUNNELPIN_NOT_RAM] = say_range,

@@ -577,6 +577,14 @@ fn refused_in_its_own_words_keyring() {
         "there is no keyring nothing",
         "",
     );
+    let name = "\x1b[31mred\nkeys"; // of which nothing reaches the terminal as it is
+    refuses(
+        &desk,
+        name,
+        "signed",
+        "there is no keyring ?[31mred?keys",
+        "",
+    );
     refuses(&desk, "empty", "signed", "the keyring empty is empty", "");
     refuses(
         &desk,

@@ -461,11 +461,16 @@ fn commands(r: &mut Refusals) {
     for (file, line) in [
         (
             File::new().says(0, 100, &0x1000u64.to_le_bytes()),
-            "17, command cut off: it runs past the end of the file; file offset 8: write of 92 bytes at 0x1000",
+            "17, command cut off: it runs 92 bytes past the end of the file; file offset 8: \
+             write of 92 bytes at 0x1000",
+        ),
+        (
+            File::new().says(2, 8, &[7; 7]),
+            "17, command cut off: it runs 1 byte past the end of the file; file offset 8: entry with 8 bytes of data",
         ),
         (
             File::new().says(0, 100, &[7; 7]),
-            "17, command cut off: it runs past the end of the file; file offset 8: write of 92 bytes",
+            "17, command cut off: it runs 93 bytes past the end of the file; file offset 8: write of 92 bytes",
         ),
         (
             File::new().command(4, &[0; 9]),
@@ -532,8 +537,8 @@ fn ranges(r: &mut Refusals) {
         "20, not reachable: mode 32 reaches only addresses below 0x100000000; file offset 8: ";
     let line = format!("{of_32}{fill}{NOTHING_DONE}");
     r.refused("run file --map map --mode 32", &line);
-    let line = "20, not reachable: mode 32 reaches only addresses below 0x100000000 (--mode 64: below 0x10000000000000); \
-                file offset 8: entry at 0x100000000";
+    let line = "20, not reachable: mode 32 reaches only addresses below 0x100000000 \
+                (--mode 64: below 0x10000000000000); file offset 8: entry at 0x100000000";
     r.desk.put("file", File::new().entry(1 << 32).0);
     r.refused(
         "run file --map map --mode 32",
