@@ -12,12 +12,11 @@ extern "C" {
 #endif
 
 /*
- * Each call checks every number and byte that it is given, and answers whatever they are; all calls but
- * runnelpin_signature return one of the codes below. No call can check pointers: a slice is a pointer and a
- * length in bytes, and all of these bytes must be there to read, or to write if the call writes to them. A
- * slice may start at any address, without alignment, and may be NULL if its length is 0. What a call writes to
- * must not overlap anything else that is lent to it, and nothing that is lent may change during the call.
- * Image, header, map and table may overlap.
+ * Each call has an answer, whatever numbers and bytes it is given; all calls but runnelpin_signature return one
+ * of the codes below. No call can check pointers: a slice is a pointer and a length in bytes, and all of these
+ * bytes must be there to read, or to write if the call writes to them. A slice may start at any address, without
+ * alignment, and may be NULL if its length is 0. What a call writes to must not overlap anything else that is
+ * lent to it, and nothing that is lent may change during the call. Image, header, map and table may overlap.
  *
  * For runnelpin_load and runnelpin_open, `header` is the bytes that the security chip approved, never the
  * image's own first bytes. runnelpin_signature is called before approval, with the image's own first bytes,
