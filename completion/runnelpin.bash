@@ -22,7 +22,7 @@ _runnelpin_offer() { # PREFIX WORDS BEGINNING
 
 # The values of an option. Where it offers none, Bash offers files.
 _runnelpin_values() { # OPTION BEGINNING
-    local files hashes='sha1 sha256 sha384 sha512 ripemd160'
+    local files hashes='sha256 sha384 sha512'
     case $1 in
     --hash)
         [[ $2 == *,* ]] && hashes+=' none' # which can't be the first

@@ -5,7 +5,7 @@
 #include <stddef.h>
 #include <stdint.h>
 
-#define RUNNELPIN_VERSION "2.0.0"
+#define RUNNELPIN_VERSION "1.0.0"
 
 #ifdef __cplusplus
 extern "C" {
@@ -110,11 +110,9 @@ uint64_t runnelpin_open(const uint8_t *image, size_t image_length, const uint8_t
 /* The hashes that an image may be packed with, by their IDs in a header. */
 enum {
     RUNNELPIN_NO_HASH = 0,
-    RUNNELPIN_SHA1 = 1, /* its collisions are known: for old partners only */
     RUNNELPIN_SHA2_256 = 2,
     RUNNELPIN_SHA2_384 = 3,
-    RUNNELPIN_SHA2_512 = 4,
-    RUNNELPIN_RIPEMD160 = 5
+    RUNNELPIN_SHA2_512 = 4
 };
 
 /* Writes the image of a file, with a signature field of zeros; output must be exactly as long as the image. */
@@ -140,9 +138,6 @@ struct runnelpin_field runnelpin_signature(const uint8_t *image, size_t image_le
 static inline uint64_t runnelpin_digest_length(uint64_t id)
 {
     switch (id) {
-    case RUNNELPIN_SHA1:
-    case RUNNELPIN_RIPEMD160:
-        return 20;
     case RUNNELPIN_SHA2_256:
         return 32;
     case RUNNELPIN_SHA2_384:

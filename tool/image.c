@@ -22,11 +22,9 @@ const char *const field_names[FIELDS] = {
 };
 
 static const struct hash hashes[] = {{"none", RUNNELPIN_NO_HASH},
-                                     {"sha1", RUNNELPIN_SHA1},
                                      {"sha256", RUNNELPIN_SHA2_256},
                                      {"sha384", RUNNELPIN_SHA2_384},
-                                     {"sha512", RUNNELPIN_SHA2_512},
-                                     {"ripemd160", RUNNELPIN_RIPEMD160}};
+                                     {"sha512", RUNNELPIN_SHA2_512}};
 
 enum { KNOWN_HASHES = sizeof hashes / sizeof *hashes };
 

@@ -20,7 +20,7 @@ enum { LARGEST = 1 << 30, HASHES = 4, MOST_SIGNATURE = 4096 };
 extern const char *const field_names[FIELDS];
 
 /* The hashes by name, for people. */
-#define HASH_NAMES "sha1, sha256, sha384, sha512, ripemd160 and none"
+#define HASH_NAMES "sha256, sha384, sha512 and none"
 
 /* A hash that the library has: its name and its ID. */
 struct hash {

@@ -9,7 +9,8 @@ const struct option_form options[OPTIONS] = {
     [OPTION_HEADER] = {"--header", NULL, "FILE", "the approved header"},
     [OPTION_MAP] = {"--map", NULL, "FILE", "the memory map: base and length of a region on each line"},
     [OPTION_OUTPUT] = {"-o", NULL, "FILE", "where to write the result; - is standard output"},
-    [OPTION_HASH] = {"--hash", NULL, "NAMES", "up to four, separated by commas (default: sha512):\n" HASH_NAMES},
+    [OPTION_HASH] = {"--hash", NULL, "NAMES", "up to four of " HASH_NAMES ",\n"
+                                              "separated by commas (default: sha512)"},
     [OPTION_BLOCK] = {"--block", NULL, "BYTES", "the block size, at most 1048576 (default: 65536)"},
     [OPTION_SIGNATURE] = {"--signature", NULL, "BYTES", "the signature length to expect (default: the header's)"},
     [OPTION_CPUID] = {"--cpuid", NULL, "FILE|host", "the CPUID table: six numbers on each line, or this\n"

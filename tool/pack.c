@@ -25,15 +25,6 @@ static void read_hashes(const char *names, uint64_t *ids)
     fail("--hash %s: give up to four of " HASH_NAMES ", separated by commas", names);
 }
 
-/* Given more than once, it is no stronger. */
-static int is_sha1_alone(const uint64_t *ids)
-{
-    for (int i = 0; i < HASHES; i++)
-        if (ids[i] != RUNNELPIN_SHA1 && ids[i] != RUNNELPIN_NO_HASH)
-            return 0;
-    return 1;
-}
-
 static uint64_t pack_into(const struct packing *p, struct bytes image)
 {
     begin_call("hashing and packing", p->file.length);
@@ -68,9 +59,6 @@ int job_pack(const struct request *request)
             p.signature_length);
         if (!is_command_file(p.file))
             say(note(&r), "the file is not a command file " FILE_BEGINS ": it can be opened, but not loaded");
-        if (is_sha1_alone(p.ids))
-            say(warning(&r), "SHA1 is the only hash, and its collisions are known: different blocks with the same "
-                             "hashsum can be made; use it for old partners only");
     }
     give_output(&r, image);
     return finish(&r);

@@ -26,11 +26,6 @@ struct text *note(struct report *r)
     return new;
 }
 
-struct text *warning(struct report *r)
-{
-    return r->warning = note(r);
-}
-
 static void print_json(const struct report *r)
 {
     const struct runnelpin_answer *a = &r->call.answer;
@@ -63,7 +58,7 @@ static int is_one_place(void)
     return !fstat(STDOUT_FILENO, &out) && !fstat(STDERR_FILENO, &err) && is_one_file(&out, &err);
 }
 
-/* Whether a line is told on standard error too, for people: not where it is there already or a result is. */
+/* Whether a refusal is told on standard error too, for people: not where it is there already or a result is. */
 static int is_told_again(int is_json)
 {
     return answers() != stderr && !is_on_standard_error() && (is_json || !is_one_place());
@@ -82,7 +77,5 @@ int finish(struct report *r)
     if (is_refused && is_told_again(is_json))
         complain("%s%s%s", is_of_operand(&r->call) ? r->request->operand : "", is_of_operand(&r->call) ? ": " : "",
                  r->words.at);
-    if (r->warning && is_told_again(is_json))
-        complain("%s", r->warning->at);
     return is_refused ? STATUS_REFUSED : STATUS_DONE;
 }

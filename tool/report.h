@@ -11,16 +11,12 @@ struct report {
     struct text words;
     struct text **notes;
     size_t notes_made;
-    struct text *warning; /* the note that is one, or NULL */
 };
 
 struct report new_report(const struct request *request);
 
 /* A new note, to be said. */
 struct text *note(struct report *report);
-
-/* The same, and told on standard error too where a refusal would be. There is at most one. */
-struct text *warning(struct report *report);
 
 /* Prints answer, words and notes, and gives the exit status. On a refusal the words are the tool's own. */
 int finish(struct report *report);

@@ -10,7 +10,7 @@
 
 #define WIDE (UINT64_C(1) << 32) /* a number that must not be cut to 32 bits */
 
-enum { HEADER = 108, SIGNATURE = 9, BLOCK = 128, BLOCKS = 3, IMAGE = HEADER + SIGNATURE + BLOCKS * BLOCK };
+enum { HEADER = 180, SIGNATURE = 9, BLOCK = 200, BLOCKS = 3, IMAGE = HEADER + SIGNATURE + BLOCKS * BLOCK };
 enum { CHECK_PLACE = 60, FILE_BYTES = 164, MEMORY = 8 + 0x20 + 3, STORED_AT = 8 + 0x10 };
 
 static const uint8_t sample_file[FILE_BYTES + 1] = {
@@ -39,8 +39,7 @@ static const int codes[] = {
     RUNNELPIN_EMPTY_FILE,     RUNNELPIN_OUTPUT_LENGTH
 };
 
-static const int hash_ids[] = { RUNNELPIN_NO_HASH,  RUNNELPIN_SHA1,     RUNNELPIN_SHA2_256,
-                                RUNNELPIN_SHA2_384, RUNNELPIN_SHA2_512, RUNNELPIN_RIPEMD160 };
+static const int hash_ids[] = { RUNNELPIN_NO_HASH, 1, RUNNELPIN_SHA2_256, RUNNELPIN_SHA2_384, RUNNELPIN_SHA2_512 };
 
 static uint8_t image[IMAGE + 1], header[HEADER + 1], memory[MEMORY], output[FILE_BYTES];
 static struct runnelpin_answer room[2], *const answer = room; /* the second is never written to */
@@ -84,7 +83,7 @@ struct lent {
 static struct lent sound(void)
 {
     struct lent l = { image,  header, sample_file, map, cpuid, IMAGE, HEADER, FILE_BYTES, sizeof map, sizeof cpuid,
-                      64,     SIGNATURE, { 2, 5, 0, 1 }, BLOCK, MEMORY, FILE_BYTES, IMAGE, sizeof *answer };
+                      64,     SIGNATURE, { 2, 0, 3, 4 }, BLOCK, MEMORY, FILE_BYTES, IMAGE, sizeof *answer };
     memset(memory, 0xee, sizeof memory);
     memset(output, 0xee, sizeof output);
     memset(room, 0xee, sizeof room);
@@ -126,28 +125,28 @@ static uint64_t signature_start(struct lent l)
 
 static struct lent changed;
 
-/* Hashsum 32 + 20 + 20 = 72, so 56 data bytes a block: 164 file bytes are three blocks and padding 4. */
+/* Hashsum 32 + 48 + 64 = 144, so 56 data bytes a block: 164 file bytes are three blocks and padding 4. */
 static void test_pack(void)
 {
     static const struct {
         size_t at, width;
         uint64_t value;
     } fields[] = { { 0, 4, 0xe6019598 }, { 4, 4, BLOCKS }, { 8, 4, BLOCK }, { 12, 4, SIGNATURE }, { 16, 2, HEADER },
-                   { 18, 2, 72 },        { 20, 2, 2 },     { 22, 2, 5 },    { 24, 2, 0 },         { 26, 2, 1 },
+                   { 18, 2, 144 },       { 20, 2, 2 },     { 22, 2, 0 },    { 24, 2, 3 },         { 26, 2, 4 },
                    { 28, 2, 1 },         { 30, 2, 0 },     { 32, 4, 4 } };
     expect("pack", pack(sound()), RUNNELPIN_DONE);
     for (size_t i = 0; i < sizeof fields / sizeof *fields; i++)
         expect("pack: a header field", number(image + fields[i].at, fields[i].width), fields[i].value);
     expect("pack: the file behind hash field and padding",
-           (uint64_t)memcmp(image + HEADER + SIGNATURE + 72 + 4, sample_file, 52), 0);
+           (uint64_t)memcmp(image + HEADER + SIGNATURE + 144 + 4, sample_file, 52), 0);
     memcpy(header, image, HEADER);
 
     expect("pack: file length", WITH(pack, file_length, 0), RUNNELPIN_EMPTY_FILE);
     expect("pack: id1", WITH(pack, ids[0], 0), RUNNELPIN_HASH_ID);
-    expect("pack: id2", WITH(pack, ids[1], 6), RUNNELPIN_HASH_ID);
-    expect("pack: id3", WITH(pack, ids[2], 65536 + 5), RUNNELPIN_HASH_ID);
-    expect("pack: id4", WITH(pack, ids[3], WIDE + 1), RUNNELPIN_HASH_ID);
-    expect("pack: block size", WITH(pack, block_size, 72), RUNNELPIN_BLOCKS);
+    expect("pack: id2", WITH(pack, ids[1], 5), RUNNELPIN_HASH_ID);
+    expect("pack: id3", WITH(pack, ids[2], 65536 + 3), RUNNELPIN_HASH_ID);
+    expect("pack: id4", WITH(pack, ids[3], WIDE + 4), RUNNELPIN_HASH_ID);
+    expect("pack: block size", WITH(pack, block_size, 144), RUNNELPIN_BLOCKS);
     expect("pack: wide block size", WITH(pack, block_size, WIDE + BLOCK), RUNNELPIN_BLOCKS);
     expect("pack: signature length", WITH(pack, signature_length, 4097), RUNNELPIN_ARGUMENT);
     expect("pack: output length", WITH(pack, packed_length, IMAGE - 1), RUNNELPIN_OUTPUT_LENGTH);

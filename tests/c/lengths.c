@@ -32,8 +32,7 @@ static uint64_t pick(const uint64_t *list, size_t count)
 
 static uint64_t picked_id(void)
 {
-    static const uint64_t ids[] = { 0, 0, 0, 1, 1, 1, 2, 2, 2, 3, 3, 4, 4, 5, 5, 5, 1, 2, 3, 4, 5,
-                                    6, 59999, 65537, 65541, WIDE + 1, WIDE + 2, UINT64_MAX };
+    static const uint64_t ids[] = { 0, 0, 2, 2, 3, 3, 4, 4, 2, 3, 4, 1, 5, 65538, WIDE + 2, UINT64_MAX };
     return PICK(ids);
 }
 
@@ -56,8 +55,7 @@ static uint64_t pack(const struct packing *p, uint8_t *output, uint64_t length)
 static struct packing picked_packing(void)
 {
     static const uint64_t files[] = { 0, 1, 55, 56, 57, 64, 65, 164, 5000, LIMIT - 1, LIMIT, LIMIT + 1, WIDE + 9 };
-    static const uint64_t blocks[] = { 0,  20, 21,  32,  33,  40,  41,  52,      53,      84,
-                                       85, 96, 144, 145, 200, 256, 257, 1048576, 1048577, WIDE + 96 };
+    static const uint64_t blocks[] = { 0, 32, 33, 96, 144, 145, 200, 256, 257, 1048576, 1048577, WIDE + 96 };
     static const uint64_t signatures[] = { 0, 1, 9, 310, 4096, 4097, WIDE + 9, UINT64_MAX };
     struct packing p = { PICK(files), { picked_id(), picked_id(), picked_id(), picked_id() }, PICK(blocks),
                          PICK(signatures) };
@@ -109,11 +107,10 @@ static void put(uint8_t *header, size_t at, size_t width, uint64_t value)
 static size_t pick_header(uint8_t *header)
 {
     static const uint64_t yes[] = { 1, 1, 1, 1, 1, 1, 1, 1, 1, 1, 1, 1, 1, 1, 1, 0 };
-    static const uint64_t sums[] = { 0, 20, 36, 52, 80, 145, 65500 };
-    static const uint64_t counts[] = { 1, 2, 3, 7, 5000, 1024, 0, UINT32_MAX };
-    static const uint64_t sizes[] = { 200, 145, 300, 1048576, 257, 144, 53, 21, 20, 0, 1048577, UINT32_MAX };
+    static const uint64_t sums[] = { 0, 36, 80, 145, 65500 }, counts[] = { 1, 2, 3, 7, 5000, 1024, 0, UINT32_MAX };
+    static const uint64_t sizes[] = { 200, 145, 300, 1048576, 257, 144, 0, 1048577, UINT32_MAX };
     static const uint64_t signatures[] = { 1, 9, 310, 4096, 0, 4097, UINT32_MAX };
-    static const uint64_t paddings[] = { 0, 0, 1, 43, 55, 56, 200, UINT32_MAX }, lengths[] = { 0, 35, 36, 37, 56, 292 };
+    static const uint64_t paddings[] = { 0, 0, 1, 43, 55, 56, 200, UINT32_MAX }, lengths[] = { 0, 35, 36, 37, 292 };
     uint64_t ids[4] = { picked_id(), picked_id(), picked_id(), picked_id() };
     uint64_t sum = runnelpin_hashsum_length(ids[0] & 0xffff, ids[1] & 0xffff, ids[2] & 0xffff, ids[3] & 0xffff);
     uint64_t stated = PICK(yes) ? sum : PICK(sums), size = 36 + (PICK(yes) ? sum : stated);
@@ -178,22 +175,6 @@ static void test_headers(void)
     expect("enough file lengths", given > 1000, 1);
 }
 
-/* Worked out by hand from docs/FORMAT.md. */
-static void test_hashes(void)
-{
-    static const struct {
-        uint64_t ids[4], sum;
-    } sums[] = { { { 1, 0, 0, 0 }, 20 },  { { 5, 0, 0, 0 }, 20 },  { { 1, 5, 0, 0 }, 40 },  { { 2, 5, 0, 0 }, 52 },
-                 { { 4, 0, 1, 0 }, 84 },  { { 5, 5, 1, 1 }, 80 },  { { 2, 0, 3, 4 }, 144 }, { { 4, 4, 4, 4 }, 256 },
-                 { { 0, 1, 5, 2 }, 0 },   { { 6, 0, 0, 0 }, 0 },   { { 1, 6, 0, 0 }, 0 },   { { 5, 0, 0, 60000 }, 0 },
-                 { { 2, 65537, 0, 0 }, 0 }, { { 1, 0, WIDE + 5, 0 }, 0 } };
-    for (size_t i = 0; i < COUNT(sums); i++)
-        expect("the hashsum of four hashes",
-               runnelpin_hashsum_length(sums[i].ids[0], sums[i].ids[1], sums[i].ids[2], sums[i].ids[3]), sums[i].sum);
-    expect("a byte in the smallest block of SHA1", runnelpin_image_length(1, 1, 0, 0, 0, 21, 8), 56 + 8 + 21);
-    expect("a block that has room for its hash field only", runnelpin_image_length(1, 1, 0, 0, 0, 20, 8), 0);
-}
-
 /* What a header states; the bytes behind its end are not looked at. */
 static void test_stated(void)
 {
@@ -223,7 +204,6 @@ int main(void)
     if (failed)
         return end();
     lent = (uint8_t *)at;
-    test_hashes();
     test_packing();
     test_headers();
     test_stated();

@@ -1,22 +1,23 @@
--- Laws of the blocks of a message, over the hash: loading one, working in one after the other, and the last one's length field.
-use Rattle.std.proofs.Common.{◌≡◌, ℕ, zero, suc, ◌+◌, ◌*◌, ◌/◌, ◌%◌, ◌^◌, ◌<◌, ◌≤◌, List, [], ◌∷◌, ◌++◌, length, take, drop, set, sym, refl, ap, ◌∙◌, subst, ap₂, add-zero, add_assoc, add-suc, suc-mul, add-mul, add-one, arith, length-append, length-drop, length-set, take_all, drop-drop, take-suc-set}
+-- Laws of the blocks of a message, over the width: loading one, working in one after the other, and the last one's length field.
+use Rattle.std.proofs.Common.{◌≡◌, ℕ, zero, suc, ◌+◌, ◌*◌, ◌/◌, ◌%◌, ◌^◌, ◌<◌, ◌≤◌, List, [], ◌∷◌, ◌++◌, length, take, drop, set, sym, refl, ap, ◌∙◌, subst, ap₂, add-zero, add_assoc, add-suc, suc-mul, add-mul, add-one, arith, length-append, length-drop, length-set, drop-drop, take-suc-set}
 use lib.Seq.{take-append-le, drop-append-le}
-use Rattle.octets.specs.Numbers.{big_bytes}
+use Rattle.octets.specs.Numbers.{big, big_bytes}
 use Rattle.octets.specs.Parts.{part, put}
-use Rattle.octets.proofs.NumberLaws.{put-big}
-use Rattle.hashes.specs.Hash.{Order, Method, spelled, spelling}
+use Rattle.octets.proofs.NumberLaws.{big-big_bytes, big_bytes-big, length-big_bytes, octets-big_bytes, put-big}
+use Rattle.hashes.specs.Widths.{Width, Eight}
 use Rattle.hashes.specs.Padding.{word_bytes, block_bytes, words_at, block}
-use Rattle.hashes.specs.Hashing.{after_blocks}
-use Rattle.hashes.proofs.Orders.{spelling-mod}
+use Rattle.hashes.specs.Compression.{compressed, after_blocks}
+use Rattle.hashes.specs.Progress.{Rounds}
+use Rattle.hashes.proofs.Rounds.{none_done}
 
 -- ---- the words of a block
 
-module _ (P : Method) (s : List ℕ) (at : ℕ) where
-  pub length-words_at : (n : ℕ) → length (words_at P s at n) ≡ n
+module _ (P : Width) (s : List ℕ) (at : ℕ) where
+  length-words_at : (n : ℕ) → length (words_at P s at n) ≡ n
   unfolding words_at
   length-words_at zero = refl
   length-words_at (suc n) =
-      length-append (words_at P s at n) (spelled P.order (part s (at + n * word_bytes P) (word_bytes P)) ∷ [])
+      length-append (words_at P s at n) (big (part s (at + n * word_bytes P) (word_bytes P)) ∷ [])
       ∙ ap (λ (k : ℕ). k + 1) (length-words_at n)
       ∙ add-one n
 
@@ -26,15 +27,15 @@ module _ (P : Method) (s : List ℕ) (at : ℕ) where
     pub room : length W ≡ n
     pub words : take i W ≡ words_at P s at i
 
-  pub load-none : {n : ℕ} {W : List ℕ} → length W ≡ n → Loading n W 0
+  pub load-none : {W : List ℕ} → length W ≡ P.rounds → Loading P.rounds W 0
   unfolding words_at
   load-none l = record { until = omega arith; room = l; words = refl }
 
-  pub load-more : {n i x : ℕ} {W : List ℕ} → i < 16 → 16 ≤ n → Loading n W i
-      → x ≡ spelled P.order (part s (at + i * word_bytes P) (word_bytes P))
-      → Loading n (set W i x) (i + 1)
+  pub load-more : {i x : ℕ} {W : List ℕ} → i < 16 → 16 ≤ P.rounds → Loading P.rounds W i
+      → x ≡ big (part s (at + i * word_bytes P) (word_bytes P))
+      → Loading P.rounds (set W i x) (i + 1)
   unfolding words_at
-  load-more {n} {i} {x} {W} l m h e =
+  load-more {i} {x} {W} l m h e =
       record {
         until = omega arith;
         room = length-set W i x ∙ h.room;
@@ -45,89 +46,90 @@ module _ (P : Method) (s : List ℕ) (at : ℕ) where
             ∙ ap (words_at P s at) (sym (add-one i));
       }
 
-  pub load-all : {n i : ℕ} {W : List ℕ} → 16 ≤ i → Loading n W i → take 16 W ≡ words_at P s at 16
-  load-all {n} {i} {W} l h =
+  pub load-all : {i : ℕ} {W : List ℕ} → 16 ≤ i → Loading P.rounds W i → (H : Eight) → Rounds P H (words_at P s at 16) 0 H W
+  load-all {i} {W} l h H =
       let e : i ≡ 16 = omega arith in
-      subst (λ (k : ℕ). take k W ≡ words_at P s at k) e h.words
-
-  -- where the loop loads all the words that there is room for
-  pub load-whole : {i : ℕ} {W : List ℕ} → 16 ≤ i → Loading 16 W i → W ≡ words_at P s at 16
-  load-whole {i} {W} l h = sym (take_all 16 W (omega (arith, h.room))) ∙ load-all l h
+      none_done P H (words_at P s at 16) (length-words_at 16) h.room
+      (subst (λ (k : ℕ). take k W ≡ words_at P s at k) e h.words)
 
 -- words that stand in a first part are those of the whole
-words_at-append : (P : Method) (s t : List ℕ) (at n : ℕ) → at + n * word_bytes P ≤ length s → words_at P (s ++ t) at n ≡ words_at P s at n
+words_at-append : (P : Width) (s t : List ℕ) (at n : ℕ) → at + n * word_bytes P ≤ length s → words_at P (s ++ t) at n ≡ words_at P s at n
 unfolding words_at
 words_at-append P s t at zero l = refl
 words_at-append P s t at (suc n) l =
     let m : at + n * word_bytes P + word_bytes P ≤ length s = omega (arith, suc-mul n (word_bytes P)) in
     let d : word_bytes P ≤ length (drop (at + n * word_bytes P) s) = omega (arith, length-drop (at + n * word_bytes P) s) in
-    ap₂ (λ (u : List ℕ) (b : List ℕ). u ++ (spelled P.order b ∷ [])) (words_at-append P s t at n (omega arith))
+    ap₂ (λ (u : List ℕ) (b : List ℕ). u ++ (big b ∷ [])) (words_at-append P s t at n (omega arith))
     (ap (take (word_bytes P)) (drop-append-le (at + n * word_bytes P) s t (omega arith))
     ∙ take-append-le (word_bytes P) (drop (at + n * word_bytes P) s) t d)
 
 -- words behind k bytes
-words_at-drop : (P : Method) (s : List ℕ) (k at n : ℕ) → words_at P (drop k s) at n ≡ words_at P s (k + at) n
+words_at-drop : (P : Width) (s : List ℕ) (k at n : ℕ) → words_at P (drop k s) at n ≡ words_at P s (k + at) n
 unfolding words_at
 words_at-drop P s k at zero = refl
 words_at-drop P s k at (suc n) =
-    ap₂ (λ (u : List ℕ) (b : List ℕ). u ++ (spelled P.order b ∷ [])) (words_at-drop P s k at n)
+    ap₂ (λ (u : List ℕ) (b : List ℕ). u ++ (big b ∷ [])) (words_at-drop P s k at n)
     (ap (take (word_bytes P)) (drop-drop (at + n * word_bytes P) k s ∙ ap (λ (j : ℕ). drop j s) (sym (add_assoc k at (n * word_bytes P)))))
 
 -- ---- blocks one after the other
 
-module _ (P : Method) where
+module _ (P : Width) where
   -- a loop that works in n blocks, at i
-  pub record Working (H : List ℕ) (s : List ℕ) (n : ℕ) (v : List ℕ) (i : ℕ) : Type 0 where
+  pub record Working (H : Eight) (s : List ℕ) (n : ℕ) (v : Eight) (i : ℕ) : Type 0 where
     pub until : i ≤ n
     pub value : v ≡ after_blocks P H s i
 
-  pub work_none : (H : List ℕ) (s : List ℕ) (n : ℕ) → Working H s n H 0
+  pub work_none : (H : Eight) (s : List ℕ) (n : ℕ) → Working H s n H 0
   unfolding after_blocks
   work_none H s n = record { until = omega arith; value = refl }
 
-  pub work-more : (H : List ℕ) (s : List ℕ) (n i : ℕ) {v r : List ℕ} → i < n → Working H s n v i → r ≡ P.compressed v (block P s i)
+  pub work-more : (H : Eight) (s : List ℕ) (n i : ℕ) {v r : Eight} → i < n → Working H s n v i → r ≡ compressed P v (block P s i)
       → Working H s n r (i + 1)
   unfolding after_blocks
   work-more H s n i l h e =
       record {
         until = omega arith;
-        value = e ∙ ap (λ (v : List ℕ). P.compressed v (block P s i)) h.value ∙ ap (after_blocks P H s) (sym (add-one i));
+        value = e ∙ ap (λ (v : Eight). compressed P v (block P s i)) h.value ∙ ap (after_blocks P H s) (sym (add-one i));
       }
 
-  pub work-all : (H : List ℕ) (s : List ℕ) (n i : ℕ) {v : List ℕ} → n ≤ i → Working H s n v i → v ≡ after_blocks P H s n
+  pub work-all : (H : Eight) (s : List ℕ) (n i : ℕ) {v : Eight} → n ≤ i → Working H s n v i → v ≡ after_blocks P H s n
   work-all H s n i l h =
       let e : i ≡ n = omega arith in
       h.value ∙ ap (after_blocks P H s) e
 
-  pub work-nothing : (H : List ℕ) (s : List ℕ) {n : ℕ} → n ≡ 0 → H ≡ after_blocks P H s n
+  pub work-nothing : (H : Eight) (s : List ℕ) {n : ℕ} → n ≡ 0 → H ≡ after_blocks P H s n
   unfolding after_blocks
   work-nothing H s e = sym (ap (after_blocks P H s) e)
 
-  pub after_blocks-append : (H : List ℕ) (s t : List ℕ) (i : ℕ) → i * block_bytes P ≤ length s
+  pub after_blocks-append : (H : Eight) (s t : List ℕ) (i : ℕ) → i * block_bytes P ≤ length s
       → after_blocks P H (s ++ t) i ≡ after_blocks P H s i
   unfolding after_blocks
   after_blocks-append H s t zero l = refl
   after_blocks-append H s t (suc i) l =
       let m : i * block_bytes P + block_bytes P ≤ length s = omega (arith, suc-mul i (block_bytes P)) in
-      ap₂ P.compressed (after_blocks-append H s t i (omega arith)) (words_at-append P s t (i * block_bytes P) 16 m)
+      ap₂ (compressed P) (after_blocks-append H s t i (omega arith)) (words_at-append P s t (i * block_bytes P) 16 m)
 
-  pub after_blocks-drop : (H : List ℕ) (s : List ℕ) (i j : ℕ)
+  pub after_blocks-drop : (H : Eight) (s : List ℕ) (i j : ℕ)
       → after_blocks P (after_blocks P H s i) (drop (i * block_bytes P) s) j ≡ after_blocks P H s (i + j)
   unfolding after_blocks
   after_blocks-drop H s i zero = ap (after_blocks P H s) (sym (add-zero i))
   after_blocks-drop H s i (suc j) =
-      ap₂ P.compressed (after_blocks-drop H s i j)
+      ap₂ (compressed P) (after_blocks-drop H s i j)
       (words_at-drop P s (i * block_bytes P) (j * block_bytes P) 16 ∙ ap (λ (k : ℕ). words_at P s k 16) (sym (add-mul i j (block_bytes P))))
       ∙ ap (after_blocks P H s) (sym (add-suc i j))
 
 -- ---- the length field
 
+big_bytes-mod : (n x : ℕ) → big_bytes n (x % 256 ^ n) ≡ big_bytes n x
+big_bytes-mod n x =
+    ap₂ big_bytes (sym (length-big_bytes n x)) (sym (big-big_bytes n x)) ∙ big_bytes-big (big_bytes n x) (octets-big_bytes n x)
+
 -- the length field, stored as one word of 64 bits and as two
 module _ (s : List ℕ) (at n : ℕ) where
-  pub field-in-one : (o : Order) {t : List ℕ} → t ≡ put s at (spelling o 8 (n * 2 ^ 3 % 2 ^ 64)) → t ≡ put s at (spelling o 8 (8 * n))
-  field-in-one o e =
+  pub field-in-one : {t : List ℕ} → t ≡ put s at (big_bytes 8 (n * 2 ^ 3 % 2 ^ 64)) → t ≡ put s at (big_bytes 8 (8 * n))
+  field-in-one e =
       let f : n * 2 ^ 3 % 2 ^ 64 ≡ 8 * n % 256 ^ 8 = omega arith in
-      e ∙ ap (put s at) (ap (spelling o 8) f ∙ spelling-mod o 8 (8 * n))
+      e ∙ ap (put s at) (ap (big_bytes 8) f ∙ big_bytes-mod 8 (8 * n))
 
   pub field-in-two : {t u : List ℕ} → at + 16 ≤ length s → t ≡ put s at (big_bytes 8 (n / 2 ^ 61))
       → u ≡ put t (at + 8) (big_bytes 8 (n * 2 ^ 3 % 2 ^ 64))

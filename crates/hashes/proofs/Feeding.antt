@@ -1,17 +1,18 @@
--- Laws of a message that is fed piece by piece, over the hash: one piece more, and the padding as its last pieces.
+-- Laws of a message that is fed piece by piece, over the width: one piece more, and the padding as its last pieces.
 use Rattle.std.proofs.Common.{◌≡◌, ℕ, suc, ◌+◌, ◌-◌, ◌*◌, ◌/◌, ◌%◌, ◌^◌, ◌<◌, ◌≤◌, List, [], ◌∷◌, ◌++◌, length, take, drop, set, replicate, sym, refl, ap, ◌∙◌, subst, ap₂, append_assoc, mod-eq_of_lt, add-mul, one-mul, div-add-mod', zero-mul, div-mul-le_self, add-one, arith, length-append, length-drop, length-set, take-append-drop, drop_of_length-le, take_all, drop-drop, take_at}
 use native.Mathlib.Nat.{div-eq_of_lt, div_self, mod-add-mod, mod_self}
 use native.Mathlib.Nat.{mul-add-div_right, mul-add-mod_self_right, zero-div, zero-mod}
 use lib.ListN.{length-replicate}
 use lib.ListN.{replicate-append-replicate}
 use lib.Seq.{drop-append-le, set_split}
+use Rattle.octets.specs.Numbers.{big_bytes}
 use Rattle.octets.specs.Parts.{put}
+use Rattle.octets.proofs.NumberLaws.{length-big_bytes}
 use Rattle.octets.proofs.PartLaws.{put-beside}
-use Rattle.hashes.specs.Hash.{Method, spelling}
+use Rattle.hashes.specs.Widths.{Width, Eight}
 use Rattle.hashes.specs.Padding.{word_bytes, block_bytes, field_bytes, zero_bytes, padded}
-use Rattle.hashes.specs.Hashing.{after_blocks, hashed}
+use Rattle.hashes.specs.Compression.{after_blocks, hashed}
 use Rattle.hashes.specs.Progress.{Streamed}
-use Rattle.hashes.proofs.Orders.{length-spelling}
 use Rattle.hashes.proofs.Blocks.{after_blocks-append, after_blocks-drop}
 
 -- a part that goes to the end
@@ -19,7 +20,7 @@ rest_of : (p : List ℕ) (k : ℕ) → take (length p - k) (drop k p) ≡ drop k
 rest_of p k = take_all (length p - k) (drop k p) (omega (arith, length-drop k p))
 
 -- a piece fed as two
-pub fed-in-two : (P : Method) (H : List ℕ) {v : List ℕ} {pending : List ℕ} {n : ℕ} (x p : List ℕ) (k : ℕ)
+pub fed-in-two : (P : Width) (H : Eight) {v : Eight} {pending : List ℕ} {n : ℕ} (x p : List ℕ) (k : ℕ)
     → Streamed P H v pending n (x ++ take k p ++ take (length p - k) (drop k p)) → Streamed P H v pending n (x ++ p)
 fed-in-two P H {v} {pending} {n} x p k h =
     subst (Streamed P H v pending n)
@@ -27,7 +28,11 @@ fed-in-two P H {v} {pending} {n} x p k h =
     ∙ ap (λ (s : List ℕ). x ++ s) (ap (λ (s : List ℕ). take k p ++ s) (rest_of p k) ∙ take-append-drop k p))
     h
 
-module _ (P : Method) (some : 0 < word_bytes P) (H : List ℕ) where
+-- a stream begun from a hash value that is H
+pub begun-from : (P : Width) {H G v : Eight} {pending x : List ℕ} {n : ℕ} → G ≡ H → Streamed P G v pending n x → Streamed P H v pending n x
+begun-from P {v = v} {pending} {x} {n} e h = subst (λ (G : Eight). Streamed P G v pending n x) e h
+
+module _ (P : Width) (some : 0 < word_bytes P) (H : Eight) where
   pub none-fed : (pending : List ℕ) → Streamed P H H pending 0 []
   unfolding after_blocks
   none-fed pending =
@@ -40,7 +45,7 @@ module _ (P : Method) (some : 0 < word_bytes P) (H : List ℕ) where
       }
 
   -- a piece p: of the bytes that wait and p behind them the whole blocks are worked in, and the bytes behind these wait
-  fed-on : {v u : List ℕ} {pending kept x : List ℕ} {n k : ℕ} (p wait : List ℕ) → Streamed P H v pending n x
+  fed-on : {v u : Eight} {pending kept x : List ℕ} {n k : ℕ} (p wait : List ℕ) → Streamed P H v pending n x
       → wait ≡ take (length x % block_bytes P) pending ++ p → u ≡ after_blocks P v wait (length wait / block_bytes P)
       → take (length wait % block_bytes P) kept ≡ drop (length wait / block_bytes P * block_bytes P) wait → k ≡ (n + length p) % 2 ^ 64
       → Streamed P H u kept k (x ++ p)
@@ -53,7 +58,7 @@ module _ (P : Method) (some : 0 < word_bytes P) (H : List ℕ) where
             ∙ ap (λ (j : ℕ). j % 2 ^ 64) (sym (length-append x p));
         value =
             eu
-            ∙ ap₂ (λ (w : List ℕ) (s : List ℕ). after_blocks P w s j) (h.value ∙ sym first) (sym rest)
+            ∙ ap₂ (λ (w : Eight) (s : List ℕ). after_blocks P w s j) (h.value ∙ sym first) (sym rest)
             ∙ after_blocks-drop P H (x ++ p) q j
             ∙ ap (after_blocks P H (x ++ p)) (sym blocks);
         behind =
@@ -85,7 +90,7 @@ module _ (P : Method) (some : 0 < word_bytes P) (H : List ℕ) where
       blocks : length (x ++ p) / B ≡ q + j
       blocks = ap (λ (m : ℕ). m / B) whole ∙ mul-add-div_right (omega arith) q (length wait)
 
-  module _ {v : List ℕ} {pending x : List ℕ} {n : ℕ} (h : Streamed P H v pending n x) where
+  module _ {v : Eight} {pending x : List ℕ} {n : ℕ} (h : Streamed P H v pending n x) where
     -- as many bytes wait as the length has over whole blocks
     waiting : (p : List ℕ) → length (take (length x % block_bytes P) pending ++ p) ≡ length x % block_bytes P + length p
     waiting p = length-append (take (length x % block_bytes P) pending) p ∙ ap (λ (m : ℕ). m + length p) (ap length h.behind ∙ left)
@@ -94,7 +99,7 @@ module _ (P : Method) (some : 0 < word_bytes P) (H : List ℕ) where
         left = omega (arith, length-drop (length x / block_bytes P * block_bytes P) x, div-add-mod' (length x) (block_bytes P))
 
     -- from a block's border on
-    pub fed-from-border : {u : List ℕ} {kept : List ℕ} {k at : ℕ} (p : List ℕ) → length x % block_bytes P ≡ 0
+    pub fed-from-border : {u : Eight} {kept : List ℕ} {k at : ℕ} (p : List ℕ) → length x % block_bytes P ≡ 0
         → u ≡ after_blocks P v p (length p / block_bytes P) → at ≡ length p / block_bytes P * block_bytes P
         → kept ≡ put pending 0 (take (length p - at) (drop at p)) → k ≡ (n + length p) % 2 ^ 64 → Streamed P H u kept k (x ++ p)
     fed-from-border {u} {kept} {k} {at} p er eu ea ek en =
@@ -134,7 +139,7 @@ module _ (P : Method) (some : 0 < word_bytes P) (H : List ℕ) where
           none = div-eq_of_lt below
 
       -- a block that is filled up
-      pub fed-full : {u : List ℕ} → r + length p ≡ block_bytes P → u ≡ after_blocks P v kept 1 → Streamed P H u kept k (x ++ p)
+      pub fed-full : {u : Eight} → r + length p ≡ block_bytes P → u ≡ after_blocks P v kept 1 → Streamed P H u kept k (x ++ p)
       fed-full l eu =
           fed-on p wait h refl
           (eu
@@ -154,30 +159,30 @@ module _ (P : Method) (some : 0 < word_bytes P) (H : List ℕ) where
 
 -- ---- the padding is fed like any piece
 
-module _ (P : Method) (some : 0 < word_bytes P) (H : List ℕ) {v : List ℕ} {pending x : List ℕ} {n : ℕ} (h : Streamed P H v pending n x)
+module _ (P : Width) (some : 0 < word_bytes P) (H : Eight) {v : Eight} {pending x : List ℕ} {n : ℕ} (h : Streamed P H v pending n x)
     (l : length x < 2 ^ 64) where
   -- the length field fills the last block up
-  closed : {w u : List ℕ} {marked full y : List ℕ} {k at z : ℕ} → Streamed P H w marked k y → y ≡ x ++ (0x80 ∷ replicate z 0)
+  closed : {w u : Eight} {marked full y : List ℕ} {k at z : ℕ} → Streamed P H w marked k y → y ≡ x ++ (0x80 ∷ replicate z 0)
       → z ≡ zero_bytes P (length x) → at ≡ length y % block_bytes P → at + field_bytes P ≡ block_bytes P
-      → full ≡ put marked at (spelling P.order (field_bytes P) (8 * n)) → u ≡ after_blocks P w full 1 → u ≡ hashed P H x
+      → full ≡ put marked at (big_bytes (field_bytes P) (8 * n)) → u ≡ after_blocks P w full 1 → u ≡ hashed P H x
   unfolding hashed padded
   closed {w} {u} {marked} {full} {y} {k} {at} {z} s ey ez ea ef efull eu =
-      (fed-full P some H s field ea efull refl (omega (arith, length-spelling P.order (field_bytes P) (8 * n))) eu).value
+      (fed-full P some H s field ea efull refl (omega (arith, length-big_bytes (field_bytes P) (8 * n))) eu).value
       ∙ ap (λ (t : List ℕ). after_blocks P H t (length t / block_bytes P)) all
     where
       field : List ℕ
-      field = spelling P.order (field_bytes P) (8 * n)
+      field = big_bytes (field_bytes P) (8 * n)
 
       all : y ++ field ≡ padded P x
       all =
           ap (λ (s : List ℕ). s ++ field) (ey ∙ ap (λ (m : ℕ). x ++ (0x80 ∷ replicate m 0)) ez)
-          ∙ ap (λ (m : ℕ). x ++ (0x80 ∷ replicate (zero_bytes P (length x)) 0) ++ spelling P.order (field_bytes P) (8 * m))
+          ∙ ap (λ (m : ℕ). x ++ (0x80 ∷ replicate (zero_bytes P (length x)) 0) ++ big_bytes (field_bytes P) (8 * m))
           (h.count ∙ mod-eq_of_lt l)
 
   -- in the pending block, where the field has room behind the byte 0x80
-  pub padded-in-one : {u : List ℕ} {marked full : List ℕ} (r at z : ℕ) → r ≡ length x % block_bytes P → z ≡ zero_bytes P (length x)
+  pub padded-in-one : {u : Eight} {marked full : List ℕ} (r at z : ℕ) → r ≡ length x % block_bytes P → z ≡ zero_bytes P (length x)
       → at ≡ (length x + 1 + z) % block_bytes P → r + 1 + z < block_bytes P → at + field_bytes P ≡ block_bytes P
-      → marked ≡ put pending r (0x80 ∷ replicate z 0) → full ≡ put marked at (spelling P.order (field_bytes P) (8 * n)) → u ≡ after_blocks P v full 1
+      → marked ≡ put pending r (0x80 ∷ replicate z 0) → full ≡ put marked at (big_bytes (field_bytes P) (8 * n)) → u ≡ after_blocks P v full 1
       → u ≡ hashed P H x
   padded-in-one {u} {marked} {full} r at z er ez ea lr ef em efull eu =
       closed (fed-open P some H h mark er em refl (omega (arith, length-replicate {A = ℕ} z 0))) refl ez
@@ -187,11 +192,11 @@ module _ (P : Method) (some : 0 < word_bytes P) (H : List ℕ) {v : List ℕ} {p
       mark = 0x80 ∷ replicate z 0
 
   -- in the pending block and one more
-  pub padded-in-two : {w u : List ℕ} {first second full : List ℕ} (r at y z : ℕ) → r ≡ length x % block_bytes P
+  pub padded-in-two : {w u : Eight} {first second full : List ℕ} (r at y z : ℕ) → r ≡ length x % block_bytes P
       → y + suc z ≡ zero_bytes P (length x)
       → 0 ≡ (length x + 1 + y) % block_bytes P → at ≡ (length x + 1 + y + 1 + z) % block_bytes P → r + 1 + y ≡ block_bytes P
       → at + field_bytes P ≡ block_bytes P → 1 + z < block_bytes P → first ≡ put pending r (0x80 ∷ replicate y 0) → w ≡ after_blocks P v first 1
-      → second ≡ put first 0 (0 ∷ replicate z 0) → full ≡ put second at (spelling P.order (field_bytes P) (8 * n)) → u ≡ after_blocks P w full 1
+      → second ≡ put first 0 (0 ∷ replicate z 0) → full ≡ put second at (big_bytes (field_bytes P) (8 * n)) → u ≡ after_blocks P w full 1
       → u ≡ hashed P H x
   padded-in-two {w} {u} {first} {second} {full} r at y z er ez e0 ea lr ef lz ey ew es efull eu =
       closed begun joined ez

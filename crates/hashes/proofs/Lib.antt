@@ -1,13 +1,7 @@
 pub mod Algorithms
 pub mod Blocks
 pub mod Feeding
-pub mod Hashers
 pub mod Identities
-pub mod Orders
-pub mod Rings
 pub mod Rounds
-pub mod Schedules
-pub mod Sha1Laws
 pub mod Storing
 pub mod Theorems
-pub mod Turns

@@ -1,11 +1,12 @@
--- SHA2: laws of the rounds of a block, over the width.
-use Rattle.std.proofs.Common.{◌≡◌, ℕ, ◌+◌, ◌-◌, ◌%◌, ◌^◌, ◌<◌, ◌≤◌, ◌⊎◌, List, length, get_or, take, set, sym, refl, ap, ◌∙◌, ap₂, ⊎_elim, eq-or-lt_of_le, add-one, arith, length-set, get_or-set_other, get_or-take, get_or-set_same}
+-- Laws of the schedule and the rounds of a block, over the width.
+use Rattle.std.proofs.Common.{◌≡◌, ℕ, zero, suc, ◌+◌, ◌-◌, ◌%◌, ◌^◌, ◌<◌, ◌≤◌, ◌⊎◌, List, [], ◌∷◌, length, get_or, take, set, sym, refl, ap, ◌∙◌, subst, ap₂, ⊎_elim, add-zero, add-suc, add-sub_of_le, eq-or-lt_of_le, add-one, arith, length-append, length-set, get_or-set_other, get_or-take, get_or-set_same}
 use native.Mathlib.Nat.{add-mod-mod, mod-add-mod}
+use lib.ListN.{get_or-append}
+use lib.Seq.{get_or_at}
 use Rattle.hashes.specs.Words.{add, ch, big_sigma, small_sigma}
 use Rattle.hashes.specs.Widths.{Width, Eight}
-use Rattle.hashes.specs.Sha2.{mixed, next_word, schedule, T₁, T₂, round, after_rounds, summed, compressed}
-use Rattle.hashes.specs.Progress.{Rounds}
-use Rattle.hashes.proofs.Schedules.{local-of-four, schedule-first, schedule-next}
+use Rattle.hashes.specs.Compression.{mixed, next_word, with_next, scheduled, schedule, T₁, T₂, round, after_rounds, summed, compressed}
+use Rattle.hashes.specs.Progress.{Rounds, Leads}
 
 -- ---- the sums
 
@@ -48,6 +49,49 @@ pub mixed-of : (P : Width) (x y z u : ℕ) {s p t q r : ℕ} → s ≡ small_sig
 mixed-of P x y z u es ep et eq er =
     er ∙ ap (λ (n : ℕ). add P.w n u) (eq ∙ ap₂ (add P.w) (ep ∙ ap (λ (n : ℕ). add P.w n y) es) et)
 
+-- ---- the schedule
+
+module _ (P : Width) (M : List ℕ) (sixteen : length M ≡ 16) where
+  length-scheduled : (t : ℕ) → length (scheduled P M t) ≡ 16 + t
+  unfolding scheduled with_next
+  length-scheduled zero = sixteen
+  length-scheduled (suc t) =
+      length-append (scheduled P M t) (next_word P (scheduled P M t) t ∷ [])
+      ∙ ap (λ (n : ℕ). n + 1) (length-scheduled t)
+      ∙ add-one (16 + t)
+      ∙ sym (add-suc 16 t)
+
+  -- a word that is there stays
+  kept : (t n j : ℕ) → j < 16 + t → get_or (scheduled P M (t + n)) j 0 ≡ get_or (scheduled P M t) j 0
+  unfolding scheduled with_next
+  kept t zero j h = ap (λ (k : ℕ). get_or (scheduled P M k) j 0) (add-zero t)
+  kept t (suc n) j h =
+      ap (λ (k : ℕ). get_or (scheduled P M k) j 0) (add-suc t n)
+      ∙ get_or-append (scheduled P M (t + n)) (next_word P (scheduled P M (t + n)) (t + n) ∷ []) 0 j
+      (omega (arith, length-scheduled (t + n)))
+      ∙ kept t n j h
+
+  in-schedule : (t j : ℕ) → t ≤ P.rounds - 16 → j < 16 + t → get_or (schedule P M) j 0 ≡ get_or (scheduled P M t) j 0
+  in-schedule t j l h =
+      ap (λ (k : ℕ). get_or (scheduled P M k) j 0) (sym (add-sub_of_le l)) ∙ kept t (P.rounds - 16 - t) j h
+
+  -- the first 16 words are the block's
+  schedule-first : (j : ℕ) → j < 16 → get_or (schedule P M) j 0 ≡ get_or M j 0
+  unfolding scheduled
+  schedule-first j h = in-schedule 0 j (omega arith) h
+
+  -- each later word is that of step 1
+  schedule-next : (t : ℕ) → t + 16 < P.rounds → get_or (schedule P M) (t + 16) 0 ≡ next_word P (schedule P M) t
+  unfolding scheduled with_next
+  schedule-next t l =
+      in-schedule (suc t) (t + 16) (omega arith) (omega arith)
+      ∙ get_or_at (scheduled P M t) (next_word P (scheduled P M t) t) [] 0 (t + 16) (omega (arith, length-scheduled t))
+      ∙ alike (get_or (scheduled P M t)) (get_or (schedule P M)) (λ j h. sym (in-schedule t j (omega arith) h))
+    where
+      alike : (f g : ℕ → ℕ → ℕ) → ((j : ℕ) → j < 16 + t → f j 0 ≡ g j 0)
+          → mixed P (f (t + 14) 0) (f (t + 9) 0) (f (t + 1) 0) (f t 0) ≡ mixed P (g (t + 14) 0) (g (t + 9) 0) (g (t + 1) 0) (g t 0)
+      alike f g e = rw (e (t + 14) (omega arith), e (t + 9) (omega arith), e (t + 1) (omega arith), e t (omega arith))
+
 -- ---- how far a block has come
 
 module _ (P : Width) (H : Eight) (M : List ℕ) where
@@ -60,7 +104,7 @@ module _ (P : Width) (H : Eight) (M : List ℕ) where
         variables = refl;
         words =
             λ j h k.
-            sym (get_or-take 16 W j 0 (omega arith)) ∙ ap (λ (s : List ℕ). get_or s j 0) e ∙ sym (schedule-first (next_word P) M l (P.rounds - 16) j (omega arith));
+            sym (get_or-take 16 W j 0 (omega arith)) ∙ ap (λ (s : List ℕ). get_or s j 0) e ∙ sym (schedule-first P M l j (omega arith));
       }
 
   next-variables : {t : ℕ} {v r : Eight} {W : List ℕ} (K : List ℕ) → K ≡ P.K → t < P.rounds → Rounds P H M t v W
@@ -95,8 +139,7 @@ module _ (P : Width) (H : Eight) (M : List ℕ) where
           ∙ get_or-set_same W (t + 16) x 0 (omega (arith, h.room))
           ∙ n
           ∙ (rw (word (t + 14) (omega arith), word (t + 9) (omega arith), word (t + 1) (omega arith), word t (omega arith)))
-          ∙ sym (schedule-next (next_word P) M h.sixteen (local-of-four (mixed P) 14 9 1 (omega arith) (omega arith) (omega arith))
-          (P.rounds - 16) t (omega arith))
+          ∙ sym (schedule-next P M h.sixteen t l)
           ∙ ap (λ (k : ℕ). get_or (schedule P M) k 0) (sym q)
 
       before : (j : ℕ) → j < t + 16 → j < P.rounds → get_or (set W (t + 16) x) j 0 ≡ get_or (schedule P M) j 0
@@ -112,3 +155,40 @@ module _ (P : Width) (H : Eight) (M : List ℕ) where
   pub all_done : {v r : Eight} {W : List ℕ} → Rounds P H M P.rounds v W → r ≡ summed P v H → r ≡ compressed P H M
   unfolding compressed
   all_done h e = e ∙ ap (λ (v : Eight). summed P v H) h.variables
+
+-- ---- rounds one after the other
+
+leads-on : (P : Width) {t u n : ℕ} {v x y : Eight} {W X Y : List ℕ} → Leads P t v W u x X → Leads P u x X n y Y → Leads P t v W n y Y
+leads-on P f g H M h = g H M (f H M h)
+
+leads-to : (P : Width) {t u n : ℕ} {v y : Eight} {W Y : List ℕ} → u ≡ n → Leads P t v W u y Y → Leads P t v W n y Y
+leads-to P {v = v} {y} {W} {Y} e f H M h = subst (λ (k : ℕ). Rounds P H M k y Y) e (f H M h)
+
+pub four : (P : Width) (t : ℕ) {v p q r y : Eight} {W A B C Y : List ℕ} → Leads P t v W (t + 1) p A → Leads P (t + 1) p A (t + 1 + 1) q B
+    → Leads P (t + 2) q B (t + 2 + 1) r C → Leads P (t + 3) r C (t + 3 + 1) y Y → Leads P t v W (t + 4) y Y
+four P t f g h k =
+    leads-to P (omega arith) (leads-on P (leads-to P (omega arith) (leads-on P (leads-to P (omega arith) (leads-on P f g)) h)) k)
+
+-- a loop that does four rounds a turn, from `from` to `to`, at i
+pub record Fours (P : Width) (from to : ℕ) (v : Eight) (W : List ℕ) (i : ℕ) (y : Eight) (Y : List ℕ) : Type 0 where
+  pub since : from ≤ i
+  pub until : i ≤ to
+  pub whole : i % 4 ≡ 0
+  pub leads : Leads P from v W i y Y
+
+module _ (P : Width) (from to : ℕ) where
+  pub fours-begin : {v : Eight} {W : List ℕ} → from ≤ to → from % 4 ≡ 0 → Fours P from to v W from v W
+  fours-begin l e = record { since = omega arith; until = l; whole = e; leads = λ H M h. h }
+
+  pub fours-more : {i : ℕ} {v y z : Eight} {W Y Z : List ℕ} → to % 4 ≡ 0 → i < to → Fours P from to v W i y Y → Leads P i y Y (i + 4) z Z
+      → Fours P from to v W (i + 4) z Z
+  fours-more e l h f =
+      record {
+        since = omega arith;
+        until = omega arith;
+        whole = omega arith;
+        leads = leads-on P h.leads f;
+      }
+
+  pub fours-end : {i : ℕ} {v y : Eight} {W Y : List ℕ} → to ≤ i → Fours P from to v W i y Y → Leads P from v W to y Y
+  fours-end l h = leads-to P (omega arith) h.leads

@@ -1,14 +1,8 @@
 pub mod Code
+pub mod Compression
 pub mod Digests
-pub mod Five
-pub mod Hash
-pub mod Hashing
 pub mod Padding
 pub mod Progress
-pub mod Ripemd160
-pub mod Schedule
-pub mod Sha1
-pub mod Sha2
 pub mod Tables
 pub mod Widths
 pub mod Words

@@ -1,8 +1,6 @@
--- SHA2: the constants and the initial hash values of FIPS 180-4, sections 4.2 and 5.3, and the hashes that they make.
+-- The constants and the initial hash values: FIPS 180-4, sections 4.2 and 5.3, and the hashes that they make.
 use Rattle.std.specs.Prelude.{ℕ, List, [], ◌∷◌}
-use Rattle.hashes.specs.Hash.{Method, Hash, highest_first}
-use Rattle.hashes.specs.Widths.{Width, Eight, amounts, in_order, eight}
-use Rattle.hashes.specs.Sha2.{compressed}
+use Rattle.hashes.specs.Widths.{Width, Eight, Hash, amounts}
 
 -- 4.2.2: K_0 to K_63 of SHA2-256
 unfoldable pub K256 : List ℕ
@@ -110,16 +108,14 @@ initial512 =
       h = 0x5be0cd19137e2179;
     }
 
--- 6.2, 6.4: how the hashes of a width go
-abbrev pub sha2 : Width → Method
-sha2 P = record { w = P.w; order = highest_first; compressed = λ H M. in_order (compressed P (eight H) M) }
-
+-- 6.2: 32 bytes out
 abbrev pub SHA2-256 : Hash
-SHA2-256 = record { method = sha2 narrow; initial = in_order initial256 }
+SHA2-256 = record { width = narrow; initial = initial256; bytes = 32 }
 
--- 6.5: as SHA2-512, with another initial value; the digest is cut to 48 bytes
+-- 6.5: SHA2-512 with another initial value, cut to 48 bytes
 abbrev pub SHA2-384 : Hash
-SHA2-384 = record { method = sha2 wide; initial = in_order initial384 }
+SHA2-384 = record { width = wide; initial = initial384; bytes = 48 }
 
+-- 6.4: 64 bytes out
 abbrev pub SHA2-512 : Hash
-SHA2-512 = record { method = sha2 wide; initial = in_order initial512 }
+SHA2-512 = record { width = wide; initial = initial512; bytes = 64 }

@@ -1,5 +1,5 @@
--- What the two widths of SHA2 differ in: FIPS 180-4, figure 1, sections 4.1 and 4.2.
-use Rattle.std.specs.Prelude.{ℕ, List, [], ◌∷◌, slice_index}
+-- What the hashes differ in: FIPS 180-4, figure 1, sections 4.1, 4.2 and 5.3.
+use Rattle.std.specs.Prelude.{ℕ, List, [], ◌∷◌}
 use Rattle.hashes.specs.Words.{Amounts}
 
 -- what goes by the width of a word: its bits, the rounds of a block, the constants K_t of 4.2, the amounts of the functions of 4.1
@@ -30,16 +30,8 @@ pub record Eight : Type 0 where
 abbrev pub in_order : Eight → List ℕ
 in_order v = v.a ∷ v.b ∷ v.c ∷ v.d ∷ v.e ∷ v.f ∷ v.g ∷ v.h ∷ []
 
--- the eight words that stand in a list
-abbrev pub eight : List ℕ → Eight
-eight H =
-    record {
-      a = slice_index H 0;
-      b = slice_index H 1;
-      c = slice_index H 2;
-      d = slice_index H 3;
-      e = slice_index H 4;
-      f = slice_index H 5;
-      g = slice_index H 6;
-      h = slice_index H 7;
-    }
+-- one hash: its width, its initial hash value of 5.3, and how many bytes of the last hash value are its digest
+pub record Hash : Type 0 where
+  pub width : Width
+  pub initial : Eight
+  pub bytes : ℕ

@@ -1,4 +1,4 @@
--- Operations on words of w bits: FIPS 180-4, sections 2.2.2, 3.2 and 4.1.
+-- Operations on words of w bits: FIPS 180-4, sections 2.2.2, 3.2, 4.1.2 and 4.1.3.
 use Rattle.std.specs.Prelude.{ℕ, ◌+◌, ◌-◌, ◌*◌, ◌/◌, ◌%◌, ◌^◌, bit_and, bit_or, bit_xor}
 
 -- 3.2 (2): x + y modulo 2^w
@@ -17,23 +17,15 @@ shl w n x = x * 2 ^ n % 2 ^ w
 abbrev pub rotr : ℕ → ℕ → ℕ → ℕ
 rotr w n x = bit_or (shr n x) (shl w (w - n) x)
 
--- 3.2 (5): ROTL^n(x) = (x << n) ∨ (x >> w - n)
-abbrev pub rotl : ℕ → ℕ → ℕ → ℕ
-rotl w n x = bit_or (shl w n x) (shr (w - n) x)
-
 -- 2.2.2: the complement of each bit
 abbrev pub complement : ℕ → ℕ → ℕ
 complement w x = 2 ^ w - 1 - x
 
--- 4.1.1 (4.1), 4.1.2 (4.2), 4.1.3 (4.8): Ch(x, y, z) = (x ∧ y) ⊕ (¬x ∧ z)
+-- 4.1.2 (4.2), 4.1.3 (4.8): Ch(x, y, z) = (x ∧ y) ⊕ (¬x ∧ z)
 abbrev pub ch : ℕ → ℕ → ℕ → ℕ → ℕ
 ch w x y z = bit_xor (bit_and x y) (bit_and (complement w x) z)
 
--- 4.1.1 (4.1): Parity(x, y, z) = x ⊕ y ⊕ z
-abbrev pub parity : ℕ → ℕ → ℕ → ℕ
-parity x y z = bit_xor (bit_xor x y) z
-
--- 4.1.1 (4.1), 4.1.2 (4.3), 4.1.3 (4.9): Maj(x, y, z) = (x ∧ y) ⊕ (x ∧ z) ⊕ (y ∧ z)
+-- 4.1.2 (4.3), 4.1.3 (4.9): Maj(x, y, z) = (x ∧ y) ⊕ (x ∧ z) ⊕ (y ∧ z)
 abbrev pub maj : ℕ → ℕ → ℕ → ℕ
 maj x y z = bit_xor (bit_xor (bit_and x y) (bit_and x z)) (bit_and y z)
 

@@ -4,7 +4,7 @@ use compare::library;
 use second::cases::commands::RunCase;
 use second::cases::load::LoadCase;
 use second::cases::sbs::{OpenCase, PackCase, SignatureCase};
-use second::cases::{agree, choices, load_lines, run_lines, sbs_lines};
+use second::cases::{agree, load_lines, run_lines, sbs_lines};
 use second::{load, machine, sbs};
 
 #[test]
@@ -35,9 +35,4 @@ fn run_agrees() {
 fn load_agrees() {
     agree::<LoadCase>(library::load, load::load);
     load_lines::load_lines(library::load);
-}
-
-#[test]
-fn every_choice_of_hashes_agrees() {
-    choices::choice_lines(library::pack, library::open, library::load);
 }

@@ -1,10 +1,10 @@
 //! `probe_digest` against the second program's hashes.
 
 use compare::library;
-use second::hashes::{self, KNOWN};
-use second::{cases::lent::Lent, random::Random};
+use second::{cases::lent::Lent, random::Random, sha2};
 
-const UNKNOWN: [u64; 8] = [0, 6, 59_999, 60_000, 65_535, 65_537, 65_541, u64::MAX];
+const IDS: [u64; 3] = [2, 3, 4];
+const UNKNOWN: [u64; 5] = [0, 1, 5, 65538, u64::MAX];
 
 /// What the call leaves in an output that held 0x77 everywhere.
 fn digest(id: u64, message: &[u8], out_length: usize) -> (u64, Vec<u8>) {
@@ -15,7 +15,7 @@ fn digest(id: u64, message: &[u8], out_length: usize) -> (u64, Vec<u8>) {
 }
 
 fn agree(id: u64, message: &[u8]) {
-    let expected = hashes::digest(id, message);
+    let expected = sha2::digest(id, message);
     let (length, out) = digest(id, message, 64);
     let case = format!("hash {id}, {} bytes", message.len());
     assert_eq!(length, expected.len() as u64, "{case}");
@@ -31,7 +31,7 @@ fn every_length_up_to_1000() {
     let mut random = Random::new(1);
     for length in 0..=1000 {
         let message = random.bytes(length);
-        for id in KNOWN {
+        for id in IDS {
             agree(id, &message);
         }
     }
@@ -43,11 +43,11 @@ fn random_and_long_messages() {
     for _ in 0..2000 {
         let length = random.below(1001) as usize;
         let message = random.bytes(length);
-        agree(random.pick(&KNOWN), &message);
+        agree(random.pick(&IDS), &message);
     }
     for length in [4095, 4096, 65_537, 1_000_000, (1 << 22) + 111] {
         let message = random.bytes(length);
-        for id in KNOWN {
+        for id in IDS {
             agree(id, &message);
         }
     }
@@ -63,8 +63,8 @@ fn an_unknown_id_has_an_empty_digest() {
 
 #[test]
 fn an_output_of_another_length_is_not_written() {
-    for out_length in [0, 1, 20, 32, 63, 65, 128] {
-        for id in KNOWN {
+    for out_length in [0, 1, 32, 63, 65, 128] {
+        for id in IDS {
             assert_eq!(digest(id, b"abc", out_length).1, vec![0x77; out_length]);
         }
     }

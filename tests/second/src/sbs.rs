@@ -1,7 +1,7 @@
 //! Signed block streams, from the customer's document (FORMAT's H, B, I, K): packing, opening, the signature field.
 
 use crate::answer::{rule, Answer, LARGEST, RECORD};
-use crate::hashes;
+use crate::sha2;
 
 pub const MAGIC: u64 = 0xe6019598;
 pub const LARGEST_BLOCK: u64 = 1_048_576;
@@ -36,7 +36,7 @@ pub fn sum_length(ids: [u64; 4]) -> Result<usize, u64> {
     rule(6, ids[0] != 0)?;
     let mut length = 0;
     for id in ids {
-        let one = hashes::digest_length(id);
+        let one = sha2::digest_length(id);
         rule(6, id == 0 || one != 0)?;
         length += one;
     }
@@ -45,9 +45,7 @@ pub fn sum_length(ids: [u64; 4]) -> Result<usize, u64> {
 
 /// The configured digests joined, the first position first.
 pub fn hashsum(ids: [u64; 4], block: &[u8]) -> Vec<u8> {
-    ids.iter()
-        .flat_map(|&id| hashes::digest(id, block))
-        .collect()
+    ids.iter().flat_map(|&id| sha2::digest(id, block)).collect()
 }
 
 /// An image whose header has passed 1 and 4 to 12.

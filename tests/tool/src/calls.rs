@@ -40,28 +40,15 @@ fn take_answer(said: &Said, answer: &mut [u8]) -> u64 {
     answer
 }
 
-/// What pack notes where SHA1 is the only hash; it stands on standard error too.
-pub const SHA1_ALONE: &str = "SHA1 is the only hash, and its collisions are known: \
-    different blocks with the same hashsum can be made; use it for old partners only";
-
-/// Whether these are SHA1, once or more often, and nothing else.
-pub fn is_sha1_alone(ids: [u64; 4]) -> bool {
-    ids.iter().all(|&id| id <= 1)
-}
-
-pub fn notes_sha1(json: &Value) -> bool {
-    let mut notes = json["notes"].list().iter();
-    notes.any(|note| note.text() == SHA1_ALONE)
-}
-
 /// The exit status, the words, and the line on standard error.
 fn check_refusal(said: &Said, code: u64, json: &Value) {
     let words = json["words"].text();
     assert_eq!(said.status, i32::from(code != 0), "{said:?}");
     if code == 0 {
-        assert!(words.starts_with("done: "), "{said:?}");
-        let line = format!("runnelpin: {SHA1_ALONE}\n");
-        assert_eq!(said.err, if notes_sha1(json) { &line } else { "" });
+        assert!(
+            words.starts_with("done: ") && said.err.is_empty(),
+            "{said:?}"
+        );
     } else {
         assert!(words.starts_with(&format!("refused: {code}, ")), "{said:?}");
         assert!(said.err.ends_with(&format!("{words}\n")), "{said:?}");
@@ -177,19 +164,6 @@ pub fn open(
     take_answer(&said, answer)
 }
 
-/// For the command line; an unknown one has none.
-pub fn hash_names(ids: [u64; 4]) -> [&'static str; 4] {
-    ids.map(|id| match id {
-        0 => "none",
-        1 => "sha1",
-        2 => "sha256",
-        3 => "sha384",
-        4 => "sha512",
-        5 => "ripemd160",
-        _ => "",
-    })
-}
-
 pub fn pack(
     file: &[u8],
     ids: [u64; 4],
@@ -197,7 +171,13 @@ pub fn pack(
     signature_length: u64,
     output: &mut [u8],
 ) -> u64 {
-    let names = hash_names(ids);
+    let names = ids.map(|id| match id {
+        0 => "none",
+        2 => "sha256",
+        3 => "sha384",
+        4 => "sha512",
+        _ => "",
+    });
     let is_exact = sbs::pack(
         file,
         ids,
@@ -215,10 +195,7 @@ pub fn pack(
         names.join(",")
     ));
     take_output(&desk, "image", output);
-    let code = take_answer(&said, &mut [0; RECORD]);
-    let is_due = code == 0 && is_sha1_alone(ids);
-    assert_eq!(notes_sha1(&said.json()), is_due, "{said:?}");
-    code
+    take_answer(&said, &mut [0; RECORD])
 }
 
 /// The field's start is the header's length: the tool gives out its bytes alone.

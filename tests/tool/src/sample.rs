@@ -24,16 +24,12 @@ pub fn file() -> File {
 }
 
 /// The image of a file, by the second program.
-pub fn packed(file: &[u8], ids: [u64; 4], block: u64, signature: u64) -> Vec<u8> {
+pub fn image(file: &[u8]) -> Vec<u8> {
+    let (ids, block, signature) = ([2, 0, 0, 0], BLOCK as u64, SIGNATURE as u64);
     let sizes = sbs::Packing::judge(file.len(), ids, block, signature).unwrap();
     let mut image = vec![0; sizes.length as usize];
     assert_eq!(sbs::pack(file, ids, block, signature, &mut image), 0);
     image
-}
-
-/// The same as the sample has it.
-pub fn image(file: &[u8]) -> Vec<u8> {
-    packed(file, [2, 0, 0, 0], BLOCK as u64, SIGNATURE as u64)
 }
 
 /// Where block k of an image, from 1, begins.

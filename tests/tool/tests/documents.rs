@@ -1,6 +1,6 @@
 //! The documents have what the tool has.
 
-use second::sbs::{self, field};
+use second::sha2;
 use std::collections::BTreeSet;
 use std::fs;
 use std::process::Command;
@@ -11,12 +11,10 @@ fn document(name: &str) -> String {
     fs::read_to_string(repository().join(name)).unwrap()
 }
 
-/// The numbers that begin a row between these marks, from a heading to the next like it.
+/// The numbers that begin a row between these marks, from a heading on.
 fn rows(name: &str, heading: &str, marks: [&str; 2]) -> Vec<u64> {
     let text = document(name);
     let (_, text) = text.split_once(heading).unwrap();
-    let like_it = &heading[..heading.find(' ').unwrap() + 1];
-    let text = text.split(like_it).next().unwrap();
     let number = |line: &str| {
         let (number, _) = line.strip_prefix(marks[0])?.split_once(marks[1])?;
         number.parse().ok()
@@ -42,58 +40,6 @@ fn every_code_is_in_each_table_of_answers() {
         codes[..29],
         "the tool makes outputs of the exact length"
     );
-}
-
-/// ID, hash, bytes of its digest, name in C, name on the command line.
-const HASHES: [(u64, &str, u64, &str, &str); 6] = [
-    (0, "none", 0, "RUNNELPIN_NO_HASH", "none"),
-    (1, "SHA1", 20, "RUNNELPIN_SHA1", "sha1"),
-    (2, "SHA2-256", 32, "RUNNELPIN_SHA2_256", "sha256"),
-    (3, "SHA2-384", 48, "RUNNELPIN_SHA2_384", "sha384"),
-    (4, "SHA2-512", 64, "RUNNELPIN_SHA2_512", "sha512"),
-    (5, "RIPEMD-160", 20, "RUNNELPIN_RIPEMD160", "ripemd160"),
-];
-
-#[test]
-fn every_hash_is_in_each_table_of_hashes() {
-    let ids: Vec<u64> = HASHES.iter().map(|hash| hash.0).collect();
-    for (name, heading) in [
-        ("README.md", "\n## The hashes\n"),
-        ("docs/FORMAT.md", "\n### H. The signed header\n"),
-    ] {
-        assert_eq!(rows(name, heading, ["| ", " |"]), ids, "{name}");
-    }
-    for (id, hash, bytes, constant, name) in HASHES {
-        for (document_name, row) in [
-            (
-                "README.md",
-                format!("\n| {id} | {hash} | {bytes} | `{constant}` | `{name}` |\n"),
-            ),
-            ("docs/FORMAT.md", format!("\n| {id} | {hash} | {bytes} |\n")),
-            ("include/runnelpin.h", format!("\n    {constant} = {id}")),
-        ] {
-            assert!(document(document_name).contains(&row), "{row}");
-        }
-    }
-}
-
-#[test]
-fn the_tool_its_help_and_its_page_have_every_hash() {
-    let desk = Desk::new();
-    desk.put("file", "x");
-    let help = desk.run("help pack").out;
-    let options = section("OPTIONS");
-    let (_, page) = options.split_once("\n.BI --hash \" NAMES\"\n").unwrap();
-    let (page, _) = page.split_once("\n.TP\n").unwrap();
-    for (id, _, bytes, _, name) in HASHES {
-        assert!(help.contains(&format!(" {name}")), "{help}");
-        let is_named = |line: &str| line.split(' ').nth(1) == Some(name);
-        assert!(page.lines().any(is_named), "{name}: {page}");
-        desk.run(&format!("pack file -o image --hash sha256,{name}"));
-        let image = desk.get("image");
-        let found = [field::IDS[1], field::SUM].map(|which| field::get(&image, which));
-        assert_eq!(found, [id, 32 + bytes], "{name}");
-    }
 }
 
 /// The first words of a help's lines that begin so, each without a comma.
@@ -219,15 +165,11 @@ fn bash_completes_values() {
     let desk = Desk::new();
     desk.put("home", "");
     desk.put("table two", "");
-    let hashes = "sha1 sha256 sha384 sha512 ripemd160";
     for (words, values) in [
-        (&["pack", "--hash", ""][..], hashes),
+        (&["pack", "--hash", ""][..], "sha256 sha384 sha512"),
         (&["pack", "--hash", "=", "sha3"], "sha384"),
-        (&["pack", "--hash", "="], hashes),
-        (&["pack", "--hash", "sha1"], "sha1"),
-        (&["pack", "--hash", "r"], "ripemd160"),
+        (&["pack", "--hash", "="], "sha256 sha384 sha512"),
         (&["pack", "--hash", "sha256,n"], "sha256,none"),
-        (&["pack", "--hash", "sha256,rip"], "sha256,ripemd160"),
         (&["load", "--mode", ""], "32 64"),
         (&["load", "--cpuid", "ho"], "home host"),
         (&["load", "--cpuid", "t"], ""),
@@ -241,9 +183,8 @@ fn bash_completes_values() {
     assert!(offered(&desk, &["run", "--cpuid", ""]).contains("table two"));
     assert!(document("completion/runnelpin.bash")
         .ends_with("\ncomplete -o default -F _runnelpin runnelpin\n"));
-    let second = offered(&desk, &["pack", "--hash", "sha256,"]);
-    assert_eq!(second.len(), HASHES.len());
-    for value in second {
+    let hashes = offered(&desk, &["pack", "--hash", "sha256,"]);
+    for value in hashes {
         desk.put("file", "x");
         let said = desk.run(&format!("pack file -o out --hash {value}"));
         assert_eq!(said.status, 0, "{said:?}");
@@ -309,20 +250,13 @@ fn hex(bytes: &[u8]) -> String {
 #[test]
 fn the_formats_images_are_those_that_pack_makes() {
     let (desk, format) = (Desk::new(), document("docs/FORMAT.md"));
-    for (length, names, block, sum) in [
-        (61, "sha256", 96, 32),
-        (65, "sha256", 96, 32),
-        (61, "sha1", 84, 20),
-        (65, "sha256,ripemd160", 116, 52),
-        (65, "ripemd160,sha256", 116, 52),
-    ] {
+    for length in [61, 65] {
         desk.put("file", (0..length).collect::<Vec<u8>>());
-        let words = format!("pack file -o image --hash {names} --block {block} --signature 8");
-        assert_eq!(desk.run(&words).status, 0, "{names}");
+        desk.run("pack file -o image --hash sha256 --block 96 --signature 8");
         let image = desk.get("image");
-        let whole = sbs::hashsum([2, 0, 0, 0], &image);
-        let shown = [&image[36..36 + sum], &whole].map(hex).join("\n    ");
-        assert!(format.contains(&format!("\n\n    {shown}\n\n")), "{shown}");
+        for shown in [hex(&image[36..68]), hex(&sha2::digest(2, &image))] {
+            assert!(format.contains(&format!("\n    {shown}\n")), "{shown}");
+        }
     }
 }
 

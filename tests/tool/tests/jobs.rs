@@ -1,15 +1,22 @@
 //! Each verb, its defaults, and where its output goes.
 
 use second::cases::run_lines::File;
-use second::sbs::field;
+use second::sbs::{self, field};
 use std::os::unix::fs::{symlink, MetadataExt, PermissionsExt};
 use std::time::{Duration, Instant};
 use std::{fs, thread};
 use tool::desk::{self, Desk};
-use tool::sample::{self, block_start, packed, BLOCK, HEADER, SIGNATURE};
+use tool::sample::{self, block_start, BLOCK, HEADER, SIGNATURE};
 
 const OWN: &str = "expected signature length, from the header";
 const NOT_APPROVED: &str = "this is the image's own header, not an approved one";
+
+fn packed(file: &[u8], ids: [u64; 4], block: u64, signature: u64) -> Vec<u8> {
+    let sizes = sbs::Packing::judge(file.len(), ids, block, signature).unwrap();
+    let mut image = vec![0; sizes.length as usize];
+    assert_eq!(sbs::pack(file, ids, block, signature, &mut image), 0);
+    image
+}
 
 #[test]
 fn pack_has_defaults_and_options() {
@@ -22,9 +29,6 @@ fn pack_has_defaults_and_options() {
         .run("pack --hash sha384,none,sha256,sha512 -o packed --block 0x100 file --signature 7");
     assert_eq!(said.status, 0);
     assert_eq!(desk.get("packed"), packed(&file, [3, 0, 2, 4], 256, 7));
-    let said = desk.run("pack file -o packed --hash ripemd160,none,sha1 --block 41 --signature 1");
-    assert_eq!((said.status, said.err.as_str()), (0, ""));
-    assert_eq!(desk.get("packed"), packed(&file, [5, 0, 1, 0], 41, 1));
 }
 
 #[test]

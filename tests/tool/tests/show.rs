@@ -342,37 +342,16 @@ fn whether_the_signature_field_is_zero() {
 fn hashes_by_number_and_name() {
     let desk = sample::desk();
     let mut image = desk.get("image");
-    field::set(&mut image, field::IDS[1], 6);
-    desk.put("unknown", image);
-    let file = desk.get("file");
-    desk.put("image", sample::packed(&file, [5, 1, 0, 2], 200, 8));
-    desk.put("others", sample::packed(&file, [3, 4, 0, 0], 200, 8));
-    for (name, lines) in [
-        (
-            "unknown",
-            ["2 (sha256)", "6 (not known)", "0 (none)", "0 (none)"],
-        ),
-        (
-            "image",
-            ["5 (ripemd160)", "1 (sha1)", "0 (none)", "2 (sha256)"],
-        ),
-        (
-            "others",
-            ["3 (sha384)", "4 (sha512)", "0 (none)", "0 (none)"],
-        ),
+    field::set(&mut image, field::IDS[1], 9);
+    desk.put("image", image);
+    let said = desk.run("show image").out;
+    for line in [
+        "  hash_1            2 (sha256)\n",
+        "  hash_2            9 (not known)\n",
+        "  hash_3            0 (none)\n",
     ] {
-        let said = desk.run(&format!("show {name}")).out;
-        for (i, line) in lines.iter().enumerate() {
-            let line = format!("\n  hash_{}            {line}\n", i + 1);
-            assert!(said.contains(&line), "{said}");
-        }
+        assert!(said.contains(line), "{said}");
     }
-    let json = desk.run("show image --json").json();
-    assert_eq!(
-        numbers(&json["header"], ["hash_1", "hash_2", "hash_3", "hash_4"]),
-        [5, 1, 0, 2]
-    );
-    assert_eq!(json["blocks"]["each"].text(), "1 to 2 proved");
 }
 
 #[test]

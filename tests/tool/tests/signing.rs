@@ -4,7 +4,6 @@ use std::os::unix::fs::{symlink, FileTypeExt};
 use std::path::Path;
 use std::process::{Child, Command, Stdio};
 use std::{env, fs, thread, time};
-use tool::calls::SHA1_ALONE;
 use tool::desk::{repository, tool, Desk, Said};
 use tool::sample;
 
@@ -46,16 +45,12 @@ fn approve(desk: &Desk, image: &str, header: &str) -> Said {
 
 /// The sample, signed, and the public key.
 fn signed() -> Desk {
-    signed_with("sha256,sha512")
-}
-
-fn signed_with(hashes: &str) -> Desk {
     let desk = sample::desk();
     let sign = repository().join("tools/sign");
     let line = format!(
         "stat -c %a \"$GNUPGHOME\" && cp \"$GNUPGHOME/public.gpg\" . && \
          gpg --armor --output armored --export && \
-         {} 'Runnelpin demo' file signed --hash {hashes} --block 200",
+         {} 'Runnelpin demo' file signed --hash sha256,sha512 --block 200",
         sign.display()
     );
     let said = script(&desk, "with-key", &["sh", "-c", &line]);
@@ -64,24 +59,17 @@ fn signed_with(hashes: &str) -> Desk {
     desk
 }
 
-/// Those of old partners, too.
 #[test]
 fn a_signed_image_is_approved_and_loads() {
-    for (hashes, sum) in [
-        ("sha256,sha512", 32 + 64),
-        ("sha256,ripemd160", 32 + 20),
-        ("sha1", 20),
-    ] {
-        let desk = signed_with(hashes);
-        let said = approve(&desk, "signed", "approved");
-        assert_eq!(said.status, 0, "{said:?}");
-        let (image, header) = (desk.get("signed"), desk.get("approved"));
-        assert_eq!(header, image[..36 + sum]);
-        let words = "load signed --header approved --map map --cpuid table --json";
-        let json = desk.run(words).json();
-        let numbers = ["code", "commands", "entry"].map(|key| json[key].number());
-        assert_eq!(numbers, [0, 5, 0x100010]);
-    }
+    let desk = signed();
+    let said = approve(&desk, "signed", "approved");
+    assert_eq!(said.status, 0, "{said:?}");
+    let (image, header) = (desk.get("signed"), desk.get("approved"));
+    assert_eq!(header, image[..36 + 32 + 64]);
+    let words = "load signed --header approved --map map --cpuid table --json";
+    let json = desk.run(words).json();
+    let numbers = ["code", "commands", "entry"].map(|key| json[key].number());
+    assert_eq!(numbers, [0, 5, 0x100010]);
 }
 
 #[test]
@@ -716,39 +704,6 @@ fn what_is_no_command_file_is_called_so() {
         assert!(said.err.starts_with(words), "{said:?}");
         assert_eq!(said.err.is_empty(), words.is_empty(), "{said:?}");
     }
-}
-
-/// Though the file is packed again, for the signature's length.
-#[test]
-fn packs_note_on_sha1_is_passed_on_once() {
-    let desk = stand_ins();
-    for (options, times) in [
-        ("--hash sha1 --block 512", 1),
-        ("--block=512 --hash=sha1,none,sha1 --json", 1),
-        ("--hash sha256,sha1 --block 512", 0),
-        ("--hash ripemd160", 0),
-    ] {
-        for target in ["target", "- >target"] {
-            let said = Job { options, ..SIGN }.run(&desk, target);
-            assert_eq!(said.status, 0, "{said:?}");
-            let words = format!("{}{}", said.out, said.err);
-            assert!(
-                words.contains("; the signature has 310 bytes (try 2)"),
-                "{said:?}"
-            );
-            assert_eq!(said.err.matches(SHA1_ALONE).count(), times, "{said:?}");
-            assert!(!said.out.contains("SHA1"), "{said:?}");
-        }
-    }
-    // and a refusal of the second packing is not lost with it
-    put_command(&desk, "gpg", &GPG.replace("310", "5000"));
-    let words = ["key", "file", "new", "--hash", "sha1"];
-    let err = cant_sign(&desk, &words, 1);
-    assert_eq!(err.matches(SHA1_ALONE).count(), 1, "{err}");
-    assert!(
-        err.contains("refused: 1, argument: the signature length is 5000"),
-        "{err}"
-    );
 }
 
 /// README's lines as they stand, with keys that have no passphrase.

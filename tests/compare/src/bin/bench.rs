@@ -4,23 +4,16 @@
 use compare::timing::{race, spent, title};
 use compare::{library, old_calls, openssl, Calls};
 use second::cases::{lent::Mapping, run_lines::File};
-use second::{hashes, machine, sbs};
+use second::{machine, sbs, sha2};
 use std::cell::RefCell;
 use std::hint::black_box;
 
 const MIB_64: usize = 64 << 20;
 const MODE: u64 = 64;
-/// SHA2-384 is SHA2-512 but for its initial value.
-const HASHES: [(u64, &str); 4] = [
-    (4, "SHA2-512"),
-    (2, "SHA2-256"),
-    (1, "SHA1"),
-    (5, "RIPEMD-160"),
-];
 
 fn main() {
     title();
-    digests();
+    hashes();
     streams();
     commands();
     loads();
@@ -40,38 +33,31 @@ fn some_bytes(length: usize) -> Vec<u8> {
     (0..length).map(|i| (i % 251) as u8).collect()
 }
 
-fn digests() {
+fn hashes() {
     let data = some_bytes(MIB_64);
     let digest = |id, calls: &Calls| {
         let mut out = [0; 64];
         black_box((calls.digest)(id, black_box(&data), &mut out));
         black_box(out);
     };
-    for (id, name) in HASHES {
-        let job = format!("{name} of 64 MiB");
-        if old_calls().is_some_and(|old| (old.digest)(id, &[], &mut [0; 64]) == 0) {
-            println!("{job}: not in the old library");
-            continue;
-        }
+    for (id, name) in [(4, "SHA2-512"), (2, "SHA2-256")] {
         row(
-            &job,
+            &format!("{name} of 64 MiB"),
             |calls| digest(id, calls),
             "plain Rust",
-            || drop(black_box(hashes::digest(id, black_box(&data)))),
+            || drop(black_box(sha2::digest(id, black_box(&data)))),
         );
     }
-    if old_calls().is_some() {
-        return;
-    }
-    for (id, name) in HASHES {
-        match openssl::hash(id) {
-            None => println!("{name} of 64 MiB: no OpenSSL here"),
-            Some(hash) => race(
-                &format!("{name} of 64 MiB: OpenSSL"),
-                || digest(id, &library::CALLS),
-                || drop(black_box(hash(black_box(&data)))),
-            ),
-        }
+    match openssl::sha512() {
+        _ if old_calls().is_some() => (),
+        None => println!("SHA2-512 of 64 MiB: no OpenSSL here"),
+        Some(sha512) => race(
+            "SHA2-512 of 64 MiB: OpenSSL",
+            || digest(4, &library::CALLS),
+            || {
+                black_box(sha512(black_box(&data)));
+            },
+        ),
     }
 }
 
@@ -92,7 +78,7 @@ fn packed(file: &[u8]) -> Vec<u8> {
 /// Plain Rust hashing of an image's blocks.
 fn hash_blocks(image: &[u8]) {
     for block in image[FIRST..].chunks_exact(BLOCK) {
-        black_box(hashes::sha512(block));
+        black_box(sha2::sha512(block));
     }
 }
 

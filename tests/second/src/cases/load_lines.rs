@@ -48,7 +48,6 @@ fn load_by(call: Load, image: &[u8], header: &[u8], expected: u64) -> (Vec<u64>,
 
 pub fn load_lines(call: Load) {
     cuts_make_no_difference(call);
-    blocks_of_one_file_byte(call);
     sizes_come_before_the_next_block(call);
     headers_and_data_wait(call);
     stores_come_before_the_next_block(call);
@@ -56,41 +55,17 @@ pub fn load_lines(call: Load) {
     lengths(call);
 }
 
-/// A file, and what load makes of it.
-fn five_commands() -> (File, (Vec<u64>, Vec<u8>)) {
+fn cuts_make_no_difference(call: Load) {
     let file = File::new()
         .write(0x1001, &[1, 2, 3])
         .command(60_000, &[7; 3])
         .fill(0x1002, 3, 9)
         .write(0x1000, &[])
         .entry(77);
-    (file, (vec![0, 0, 5, 6, 77], vec![0, 1, 9, 9, 9, 0]))
-}
-
-fn cuts_make_no_difference(call: Load) {
-    let (file, expected) = five_commands();
     for at in 0..file.0.len() {
         let (image, _) = cut(&file.0, at);
+        let expected = (vec![0, 0, 5, 6, 77], vec![0, 1, 9, 9, 9, 0]);
         assert_eq!(load(call, &image), expected, "cut at {at}");
-    }
-}
-
-/// The smallest blocks, 21 bytes for SHA1 or RIPEMD-160 alone.
-fn blocks_of_one_file_byte(call: Load) {
-    let (file, expected) = five_commands();
-    for (ids, sum) in [
-        ([1, 0, 0, 0], 20),
-        ([5, 0, 0, 0], 20),
-        ([2, 5, 0, 0], 52),
-        ([1, 4, 0, 5], 104),
-    ] {
-        let signature = SIGNATURE as u64;
-        let mut image = vec![0; FIRST - SUM + sum + file.0.len() * (sum + 1)];
-        let code = sbs::pack(&file.0, ids, sum as u64 + 1, signature, &mut image);
-        assert_eq!(code, 0);
-        let header = &image[..field::ROOT + sum];
-        let given = load_by(call, &image, header, signature);
-        assert_eq!(given, expected, "{ids:?}");
     }
 }
 

@@ -1,6 +1,5 @@
 //! Generated cases of the calls, and the comparison of two programs on them.
 
-pub mod choices;
 pub mod commands;
 pub mod lent;
 pub mod load;

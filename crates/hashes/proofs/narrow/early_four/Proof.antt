@@ -1,14 +1,13 @@
 use Rattle.std.proofs.Common.{arith}
 use Rattle.hashes.specs.Tables.{narrow}
-use Rattle.hashes.specs.Progress.{Rounds}
-use Rattle.hashes.proofs.Turns.{four}
+use Rattle.hashes.proofs.Rounds.{four}
 use Rattle.hashes.proofs.narrow.early_four.Statement.{statement}
 use Rattle.hashes.proofs.narrow.early_four.Tie as tie
 
 returns : tie.Need-returns
 returns c =
     let second = c.before.before.before.before in
-    four (Rounds narrow) _ second.before.before.early-round.ensures second.early-round2.ensures c.before.before.early-round3.ensures
+    four narrow _ second.before.before.early-round.ensures second.early-round2.ensures c.before.before.early-round3.ensures
     c.early-round4.ensures
 
 third : tie.Need-early-round-requires-3

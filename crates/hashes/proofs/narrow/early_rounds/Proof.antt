@@ -1,25 +1,24 @@
 use Rattle.std.proofs.Common.{◌-◌, arith, rules}
 use Rattle.hashes.specs.Tables.{narrow}
 use Rattle.hashes.specs.Code.{narrow_words}
-use Rattle.hashes.specs.Progress.{Rounds}
-use Rattle.hashes.proofs.Turns.{Fours, fours-begin, fours-more, fours-end}
+use Rattle.hashes.proofs.Rounds.{Fours, fours-begin, fours-more, fours-end}
 use Rattle.hashes.proofs.narrow.early_rounds.Statement.{statement}
 use Rattle.hashes.proofs.narrow.early_rounds.Tie as tie
 
 abbrev invariant-loop : tie.invariant-loop
-invariant-loop w₀ k v₀ i₀ w v i = Fours (Rounds narrow) 0 48 (narrow_words v₀) w₀ i (narrow_words v) w
+invariant-loop w₀ k v₀ i₀ w v i = Fours narrow 0 48 (narrow_words v₀) w₀ i (narrow_words v) w
 
 abbrev decreases-loop : tie.decreases-loop
 decreases-loop w₀ k v₀ i₀ w v i = 48 - i
 
 loop-holds : tie.Need-loop-init invariant-loop decreases-loop
-loop-holds c = fours-begin (Rounds narrow) 0 48 (omega arith) (omega arith)
+loop-holds c = fours-begin narrow 0 48 (omega arith) (omega arith)
 
 loop-again : tie.Need-loop-preserved invariant-loop decreases-loop
-loop-again c = fours-more (Rounds narrow) 0 48 (omega arith) (search rules) c.before.before.before.loop.invariant c.early-four.ensures
+loop-again c = fours-more narrow 0 48 (omega arith) (search rules) c.before.before.before.loop.invariant c.early-four.ensures
 
 returns : tie.Need-returns invariant-loop decreases-loop
-returns c = fours-end (Rounds narrow) 0 48 (search rules) c.before.loop.invariant
+returns c = fours-end narrow 0 48 (search rules) c.before.loop.invariant
 
 pub early-rounds-spec : {M : Type 1} → statement M
 early-rounds-spec =

@@ -1,13 +1,12 @@
 use Rattle.std.proofs.Common.{arith}
 use Rattle.hashes.specs.Tables.{narrow}
-use Rattle.hashes.specs.Progress.{Rounds}
-use Rattle.hashes.proofs.Turns.{four}
+use Rattle.hashes.proofs.Rounds.{four}
 use Rattle.hashes.proofs.narrow.late_four.Statement.{statement}
 use Rattle.hashes.proofs.narrow.late_four.Tie as tie
 
 returns : tie.Need-returns
 returns c =
-    four (Rounds narrow) _ c.before.before.before.late-round.ensures c.before.before.late-round2.ensures
+    four narrow _ c.before.before.before.late-round.ensures c.before.before.late-round2.ensures
     c.before.late-round3.ensures
     c.late-round4.ensures
 

@@ -1,25 +1,24 @@
 use Rattle.std.proofs.Common.{◌-◌, arith, rules}
 use Rattle.hashes.specs.Tables.{narrow}
 use Rattle.hashes.specs.Code.{narrow_words}
-use Rattle.hashes.specs.Progress.{Rounds}
-use Rattle.hashes.proofs.Turns.{Fours, fours-begin, fours-more, fours-end}
+use Rattle.hashes.proofs.Rounds.{Fours, fours-begin, fours-more, fours-end}
 use Rattle.hashes.proofs.narrow.late_rounds.Statement.{statement}
 use Rattle.hashes.proofs.narrow.late_rounds.Tie as tie
 
 abbrev invariant-loop : tie.invariant-loop
-invariant-loop w k v₀ i₀ v i = Fours (Rounds narrow) 48 64 (narrow_words v₀) w i (narrow_words v) w
+invariant-loop w k v₀ i₀ v i = Fours narrow 48 64 (narrow_words v₀) w i (narrow_words v) w
 
 abbrev decreases-loop : tie.decreases-loop
 decreases-loop w k v₀ i₀ v i = 64 - i
 
 loop-holds : tie.Need-loop-init invariant-loop decreases-loop
-loop-holds c = fours-begin (Rounds narrow) 48 64 (omega arith) (omega arith)
+loop-holds c = fours-begin narrow 48 64 (omega arith) (omega arith)
 
 loop-again : tie.Need-loop-preserved invariant-loop decreases-loop
-loop-again c = fours-more (Rounds narrow) 48 64 (omega arith) (search rules) c.before.before.loop.invariant c.late-four.ensures
+loop-again c = fours-more narrow 48 64 (omega arith) (search rules) c.before.before.loop.invariant c.late-four.ensures
 
 returns : tie.Need-returns invariant-loop decreases-loop
-returns c = fours-end (Rounds narrow) 48 64 (search rules) c.before.loop.invariant
+returns c = fours-end narrow 48 64 (search rules) c.before.loop.invariant
 
 pub late-rounds-spec : {M : Type 1} → statement M
 late-rounds-spec =

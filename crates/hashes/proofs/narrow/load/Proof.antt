@@ -1,26 +1,23 @@
 use Rattle.std.proofs.Common.{◌-◌, arith, rules}
-use Rattle.hashes.specs.Tables.{narrow, sha2}
-use Rattle.hashes.proofs.Blocks.{Loading, load-none, load-more, load-all, length-words_at}
-use Rattle.hashes.proofs.Rounds.{none_done}
+use Rattle.hashes.specs.Tables.{narrow}
+use Rattle.hashes.proofs.Blocks.{Loading, load-none, load-more, load-all}
 use Rattle.hashes.proofs.narrow.load.Statement.{statement}
 use Rattle.hashes.proofs.narrow.load.Tie as tie
 
 abbrev invariant-loop : tie.invariant-loop
-invariant-loop w₀ bytes at i₀ w i = Loading (sha2 narrow) bytes at 64 w i
+invariant-loop w₀ bytes at i₀ w i = Loading narrow bytes at 64 w i
 
 abbrev decreases-loop : tie.decreases-loop
 decreases-loop w₀ bytes at i₀ w i = 16 - i
 
 loop-holds : tie.Need-loop-init invariant-loop decreases-loop
-loop-holds c = load-none (sha2 narrow) _ _ (search rules)
+loop-holds c = load-none narrow _ _ (search rules)
 
 loop-again : tie.Need-loop-preserved invariant-loop decreases-loop
-loop-again c = load-more (sha2 narrow) _ _ (search rules) (omega arith) c.before.before.loop.invariant c.big4.ensures
+loop-again c = load-more narrow _ _ (search rules) (omega arith) c.before.before.loop.invariant c.big4.ensures
 
 returns : tie.Need-returns invariant-loop decreases-loop
-returns c =
-    let done = c.before.loop.invariant in
-    λ H. none_done narrow H _ (length-words_at (sha2 narrow) _ _ 16) done.room (load-all (sha2 narrow) _ _ (search rules) done)
+returns c = load-all narrow _ _ (search rules) c.before.loop.invariant
 
 pub load_spec : {M : Type 1} → statement M
 load_spec =

@@ -1,25 +1,24 @@
 use Rattle.std.proofs.Common.{◌-◌, arith, rules}
 use Rattle.hashes.specs.Tables.{wide}
 use Rattle.hashes.specs.Code.{wide_words}
-use Rattle.hashes.specs.Progress.{Rounds}
-use Rattle.hashes.proofs.Turns.{Fours, fours-begin, fours-more, fours-end}
+use Rattle.hashes.proofs.Rounds.{Fours, fours-begin, fours-more, fours-end}
 use Rattle.hashes.proofs.wide.early_rounds.Statement.{statement}
 use Rattle.hashes.proofs.wide.early_rounds.Tie as tie
 
 abbrev invariant-loop : tie.invariant-loop
-invariant-loop w₀ k v₀ i₀ w v i = Fours (Rounds wide) 0 64 (wide_words v₀) w₀ i (wide_words v) w
+invariant-loop w₀ k v₀ i₀ w v i = Fours wide 0 64 (wide_words v₀) w₀ i (wide_words v) w
 
 abbrev decreases-loop : tie.decreases-loop
 decreases-loop w₀ k v₀ i₀ w v i = 64 - i
 
 loop-holds : tie.Need-loop-init invariant-loop decreases-loop
-loop-holds c = fours-begin (Rounds wide) 0 64 (omega arith) (omega arith)
+loop-holds c = fours-begin wide 0 64 (omega arith) (omega arith)
 
 loop-again : tie.Need-loop-preserved invariant-loop decreases-loop
-loop-again c = fours-more (Rounds wide) 0 64 (omega arith) (search rules) c.before.before.before.loop.invariant c.early-four.ensures
+loop-again c = fours-more wide 0 64 (omega arith) (search rules) c.before.before.before.loop.invariant c.early-four.ensures
 
 returns : tie.Need-returns invariant-loop decreases-loop
-returns c = fours-end (Rounds wide) 0 64 (search rules) c.before.loop.invariant
+returns c = fours-end wide 0 64 (search rules) c.before.loop.invariant
 
 pub early-rounds-spec : {M : Type 1} → statement M
 early-rounds-spec =

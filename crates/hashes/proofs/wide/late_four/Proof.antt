@@ -1,13 +1,12 @@
 use Rattle.std.proofs.Common.{arith}
 use Rattle.hashes.specs.Tables.{wide}
-use Rattle.hashes.specs.Progress.{Rounds}
-use Rattle.hashes.proofs.Turns.{four}
+use Rattle.hashes.proofs.Rounds.{four}
 use Rattle.hashes.proofs.wide.late_four.Statement.{statement}
 use Rattle.hashes.proofs.wide.late_four.Tie as tie
 
 returns : tie.Need-returns
 returns c =
-    four (Rounds wide) _ c.before.before.before.late-round.ensures c.before.before.late-round2.ensures c.before.late-round3.ensures
+    four wide _ c.before.before.before.late-round.ensures c.before.before.late-round2.ensures c.before.late-round3.ensures
     c.late-round4.ensures
 
 pub late-four-spec : {M : Type 1} → statement M

@@ -1,5 +1,5 @@
 use Rattle.std.proofs.Common.{rules}
-use Rattle.hashes.specs.Tables.{narrow, sha2}
+use Rattle.hashes.specs.Tables.{narrow}
 use Rattle.hashes.specs.Code.{narrow_words}
 use Rattle.hashes.specs.Padding.{words_at}
 use Rattle.hashes.proofs.Rounds.{all_done}
@@ -12,7 +12,7 @@ returns c =
     let loaded = early.before.before in
     let a = loaded.before.before.before.args in
     let H = narrow_words a.self in
-    let M = words_at (sha2 narrow) a.bytes.now a.at 16 in
+    let M = words_at narrow a.bytes.now a.at 16 in
     all_done narrow H M (c.before.late-rounds.ensures H M (early.early-rounds.ensures H M (loaded.load.ensures H)))
     c.plus.ensures
 

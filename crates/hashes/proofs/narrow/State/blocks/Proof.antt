@@ -1,32 +1,31 @@
-use Rattle.std.proofs.Common.{◌-◌, refl, ap, rules}
-use Rattle.hashes.specs.Tables.{narrow, sha2, K256}
+use Rattle.std.proofs.Common.{◌-◌, refl, rules}
+use Rattle.hashes.specs.Tables.{narrow, K256}
 use Rattle.hashes.specs.Code.{narrow_words}
-use Rattle.hashes.specs.Widths.{in_order}
 use Rattle.hashes.proofs.Blocks.{Working, work_none, work-nothing, work-more, work-all}
 use Rattle.hashes.proofs.narrow.State.blocks.Statement.{statement}
 use Rattle.hashes.proofs.narrow.State.blocks.Tie as tie
 
 abbrev invariant-loop : tie.invariant-loop
-invariant-loop bytes n k v₀ i₀ v i = Working (sha2 narrow) (in_order (narrow_words v₀)) bytes n (in_order (narrow_words v)) i
+invariant-loop bytes n k v₀ i₀ v i = Working narrow (narrow_words v₀) bytes n (narrow_words v) i
 
 abbrev decreases-loop : tie.decreases-loop
 decreases-loop bytes n k v₀ i₀ v i = n - i
 
 loop-holds : tie.Need-loop-init invariant-loop decreases-loop
-loop-holds c = work_none (sha2 narrow) _ _ _
+loop-holds c = work_none narrow _ _ _
 
 block-requires : tie.Need-block-requires invariant-loop decreases-loop
 unfolding K256
 block-requires c κs = (search rules, refl)
 
 loop-again : tie.Need-loop-preserved invariant-loop decreases-loop
-loop-again c = work-more (sha2 narrow) _ _ _ _ (search rules) c.before.before.before.loop.invariant (ap in_order c.block.ensures)
+loop-again c = work-more narrow _ _ _ _ (search rules) c.before.before.before.loop.invariant c.block.ensures
 
 returns : tie.Need-returns invariant-loop decreases-loop
-returns c = work-nothing (sha2 narrow) _ _ c.if1.true
+returns c = work-nothing narrow _ _ c.if1.true
 
 returns-2 : tie.Need-returns-2 invariant-loop decreases-loop
-returns-2 c = work-all (sha2 narrow) _ _ _ _ (search rules) c.before.loop.invariant
+returns-2 c = work-all narrow _ _ _ _ (search rules) c.before.loop.invariant
 
 pub blocks-spec : {M : Type 1} → statement M
 blocks-spec =

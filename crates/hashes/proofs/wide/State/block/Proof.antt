@@ -1,5 +1,5 @@
 use Rattle.std.proofs.Common.{rules}
-use Rattle.hashes.specs.Tables.{wide, sha2}
+use Rattle.hashes.specs.Tables.{wide}
 use Rattle.hashes.specs.Code.{wide_words}
 use Rattle.hashes.specs.Padding.{words_at}
 use Rattle.hashes.proofs.Rounds.{all_done}
@@ -12,7 +12,7 @@ returns c =
     let loaded = early.before.before in
     let a = loaded.before.before.before.args in
     let H = wide_words a.self in
-    let M = words_at (sha2 wide) a.bytes.now a.at 16 in
+    let M = words_at wide a.bytes.now a.at 16 in
     all_done wide H M (c.before.late-rounds.ensures H M (early.early-rounds.ensures H M (loaded.load.ensures H))) c.plus.ensures
 
 pub block_spec : {M : Type 1} → statement M

@@ -1,0 +1,36 @@
+use Rattle.std.proofs.Common.{refl, ◌∙◌, arith, rules}
+use Rattle.hashes.specs.Tables.{SHA2-256, SHA2-384, SHA2-512}
+use Rattle.hashes.proofs.Algorithms.{has-2, has-3, has-4, has-none, answer-by}
+use Rattle.hashes.proofs.Storing.{sha2-of, zeros-in-sixty-four}
+use Rattle.hashes.proofs.digest.Statement.{statement}
+use Rattle.hashes.proofs.digest.Tie as tie
+
+returns : tie.Need-returns
+returns c =
+    let b = c.before.before in
+    answer-by _ (has-2 b.before.match.keys1) _
+    (sha2-of SHA2-256 _ 8 (omega arith) (omega arith) b.initial-256.ensures c.digest.ensures) refl
+
+returns-2 : tie.Need-returns-2
+returns-2 c =
+    let b = c.before.before in
+    answer-by _ (has-3 b.before.match.keys2) _
+    (sha2-of SHA2-384 _ 6 (omega arith) (omega arith) b.initial-384.ensures c.digest2.ensures) refl
+
+returns-3 : tie.Need-returns-3
+returns-3 c =
+    let b = c.before.before in
+    answer-by _ (has-4 b.before.match.keys3) _
+    (sha2-of SHA2-512 _ 8 (omega arith) (omega arith) b.initial-512.ensures c.digest3.ensures) refl
+
+returns-4 : tie.Need-returns-4
+returns-4 c =
+    let none = c.before.before in
+    answer-by _ (has-none none.match.rest.0.0.1 none.match.rest.0.1 none.match.rest.1) _
+    (c.fill.ensures ∙ zeros-in-sixty-four none.before.before.args.out.now (search rules)) refl
+
+pub digest-spec : {M : Type 1} → statement M
+digest-spec =
+    tie.close
+    (tie.spec (λ c κs. search rules) (λ c κs. search rules) (λ c κs. search rules) (λ c κs. search rules) (λ c κs. search rules)
+    (λ c κs. search rules) (λ c κs. search rules) returns returns-2 returns-3 returns-4)

@@ -1,0 +1,14 @@
+use Rattle.std.proofs.Common.{arith, rules}
+use Rattle.hashes.specs.Tables.{narrow}
+use Rattle.hashes.proofs.Feeding.{fed-full}
+use Rattle.hashes.proofs.narrow.Stream.filled.Statement.{statement}
+use Rattle.hashes.proofs.narrow.Stream.filled.Tie as tie
+
+returns : tie.Need-returns
+returns c =
+    let lent = c.before.before.before.before in
+    λ H x e h. fed-full narrow (omega arith) H h _ e lent.before.keep.ensures c.wrapping-add-u64.ensures (search rules)
+    c.before.one.ensures
+
+pub filled-spec : {M : Type 1} → statement M
+filled-spec = tie.close (tie.spec (λ c κs. search rules) (λ c κs. search rules) (λ c κs. search rules) returns)

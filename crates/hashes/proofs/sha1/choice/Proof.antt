@@ -1,9 +1,0 @@
-use Rattle.hashes.proofs.Identities.{ch-short}
-use Rattle.hashes.proofs.sha1.choice.Statement.{statement}
-use Rattle.hashes.proofs.sha1.choice.Tie as tie
-
-returns : tie.Need-returns
-returns c = ch-short 32 c.args.x c.args.y c.args.z c.ranges.x.fits c.ranges.y.fits c.ranges.z.fits
-
-pub choice-spec : {M : Type 1} → statement M
-choice-spec = tie.close (tie.spec returns)

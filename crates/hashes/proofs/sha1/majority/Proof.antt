@@ -1,9 +1,0 @@
-use Rattle.hashes.proofs.Identities.{maj-short}
-use Rattle.hashes.proofs.sha1.majority.Statement.{statement}
-use Rattle.hashes.proofs.sha1.majority.Tie as tie
-
-returns : tie.Need-returns
-returns c = maj-short 32 c.args.x c.args.y c.args.z c.ranges.x.fits c.ranges.y.fits c.ranges.z.fits
-
-pub majority-spec : {M : Type 1} → statement M
-majority-spec = tie.close (tie.spec returns)
