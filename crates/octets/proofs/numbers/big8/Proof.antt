@@ -10,9 +10,9 @@ returns c =
     let b = c.before.before.before in
     joined-big
     b.args.s.now b.args.at 4 (omega arith) 32 64 _ _ refl (omega arith) (omega arith) (omega arith)
-    c.before.big4.ensures c.big42.ensures
+    c.before.big4.ensures c.big4-2.ensures
 
-pub big8-spec : {M : Type 1} → statement M
-big8-spec =
+pub big8_spec : {M : Type 1} → statement M
+big8_spec =
     tie.close
     (tie.spec (λ c. search rules) (λ c κs. search rules) (λ c. search rules) (λ c κs. search rules) (λ c. search rules) returns)

@@ -6,23 +6,23 @@ use Rattle.octets.proofs.NumberLaws.{joined-little, one_byte}
 use Rattle.octets.proofs.numbers.little2.Statement.{statement}
 use Rattle.octets.proofs.numbers.little2.Tie as tie
 
-cast-result : tie.Need-overflow-cast-result
-cast-result c = omega (arith, c.shared-slice-known.given c.before.args.at)
+cast-result : tie.Need-overflow_cast-result
+cast-result c = omega (arith, c.shared_slice_known-1.given c.before.args.at)
 
-cast-result-2 : tie.Need-overflow-cast-result-2
-cast-result-2 c = omega (arith, c.shared-slice-known2.given (c.before.before.args.at + 1))
+cast-result-2 : tie.Need-overflow_cast-result-2
+cast-result-2 c = omega (arith, c.shared_slice_known-2-1.given (c.before.before.args.at + 1))
 
 returns : tie.Need-returns
 returns c =
     let b = c.before.before in
     let at = b.args.at in
-    let byte = c.shared-slice-known2.given in
+    let byte = c.shared_slice_known-2-1.given in
     joined-little
     b.args.s.now at 1 (omega arith) 8 16 _ _ refl (omega arith) (byte at).fits (byte (at + 1)).fits
     (one_byte b.args.s.now at (omega arith)) (one_byte b.args.s.now (at + 1) (omega arith))
 
-pub little2-spec : {M : Type 1} → statement M
-little2-spec =
+pub little2_spec : {M : Type 1} → statement M
+little2_spec =
     tie.close
     (tie.spec
     (λ c. search rules)

@@ -10,9 +10,9 @@ returns c =
     let b = c.before.before.before in
     joined-little
     b.args.s.now b.args.at 2 (omega arith) 16 32 _ _ refl (omega arith) (omega arith) (omega arith)
-    c.before.little2.ensures c.little22.ensures
+    c.before.little2.ensures c.little2-2.ensures
 
-pub little4-spec : {M : Type 1} → statement M
-little4-spec =
+pub little4_spec : {M : Type 1} → statement M
+little4_spec =
     tie.close
     (tie.spec (λ c κs. search rules) (λ c. search rules) (λ c. search rules) (λ c κs. search rules) (λ c. search rules) returns)

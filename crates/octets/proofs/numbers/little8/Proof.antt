@@ -10,9 +10,9 @@ returns c =
     let b = c.before.before.before in
     joined-little
     b.args.s.now b.args.at 4 (omega arith) 32 64 _ _ refl (omega arith) (omega arith) (omega arith)
-    c.before.little4.ensures c.little42.ensures
+    c.before.little4.ensures c.little4-2.ensures
 
-pub little8-spec : {M : Type 1} → statement M
-little8-spec =
+pub little8_spec : {M : Type 1} → statement M
+little8_spec =
     tie.close
     (tie.spec (λ c κs. search rules) (λ c. search rules) (λ c. search rules) (λ c κs. search rules) (λ c. search rules) returns)

@@ -9,11 +9,11 @@ returns c =
     let second = c.before.before in
     let first = second.before.before.before.before in
     let b = first.before.before.before in
-    put-big b.args.s.now first.put-big2.new.0 second.put-big22.new.0 b.args.at 2 b.args.x (omega (arith, b.requires))
-    first.put-big2.ensures second.put-big22.ensures
+    put-big b.args.s.now first.put_big2.new.s second.put_big2-2.new.s b.args.at 2 b.args.x (omega (arith, b.requires))
+    first.put_big2.ensures second.put_big2-2.ensures
 
-pub put-big4-spec : {M : Type 1} → statement M
-put-big4-spec =
+pub put_big4_spec : {M : Type 1} → statement M
+put_big4_spec =
     tie.close
     (tie.spec
     (λ c. search rules)

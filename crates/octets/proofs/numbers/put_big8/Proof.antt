@@ -9,11 +9,11 @@ returns c =
     let second = c.before.before in
     let first = second.before.before.before.before in
     let b = first.before.before.before in
-    put-big b.args.s.now first.put-big4.new.0 second.put-big42.new.0 b.args.at 4 b.args.x (omega (arith, b.requires))
-    first.put-big4.ensures second.put-big42.ensures
+    put-big b.args.s.now first.put_big4.new.s second.put_big4-2.new.s b.args.at 4 b.args.x (omega (arith, b.requires))
+    first.put_big4.ensures second.put_big4-2.ensures
 
-pub put-big8-spec : {M : Type 1} → statement M
-put-big8-spec =
+pub put_big8_spec : {M : Type 1} → statement M
+put_big8_spec =
     tie.close
     (tie.spec
     (λ c. search rules)

@@ -11,8 +11,8 @@ returns : tie.Need-returns
 unfolding little_bytes
 returns c = set-set-put c.args.s.now c.args.at (c.args.x % 256) (c.args.x / 256 % 256) c.requires
 
-pub put-little2-spec : {M : Type 1} → statement M
-put-little2-spec =
+pub put_little2_spec : {M : Type 1} → statement M
+put_little2_spec =
     tie.close
     (tie.spec
     (λ c. search rules)

@@ -9,12 +9,12 @@ returns c =
     let second = c.before.before in
     let first = second.before.before.before.before in
     let b = first.before.before.before in
-    put-little b.args.s.now first.put-little2.new.0 second.put-little22.new.0 b.args.at 2 b.args.x
+    put-little b.args.s.now first.put_little2.new.s second.put_little2-2.new.s b.args.at 2 b.args.x
     (omega (arith, b.requires))
-    first.put-little2.ensures second.put-little22.ensures
+    first.put_little2.ensures second.put_little2-2.ensures
 
-pub put-little4-spec : {M : Type 1} → statement M
-put-little4-spec =
+pub put_little4_spec : {M : Type 1} → statement M
+put_little4_spec =
     tie.close
     (tie.spec
     (λ c. search rules)

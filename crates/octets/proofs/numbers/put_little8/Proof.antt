@@ -9,12 +9,12 @@ returns c =
     let second = c.before.before in
     let first = second.before.before.before.before in
     let b = first.before.before.before in
-    put-little b.args.s.now first.put-little4.new.0 second.put-little42.new.0 b.args.at 4 b.args.x
+    put-little b.args.s.now first.put_little4.new.s second.put_little4-2.new.s b.args.at 4 b.args.x
     (omega (arith, b.requires))
-    first.put-little4.ensures second.put-little42.ensures
+    first.put_little4.ensures second.put_little4-2.ensures
 
-pub put-little8-spec : {M : Type 1} → statement M
-put-little8-spec =
+pub put_little8_spec : {M : Type 1} → statement M
+put_little8_spec =
     tie.close
     (tie.spec
     (λ c. search rules)

@@ -10,29 +10,29 @@ use Rattle.octets.proofs.PartLaws.{paste_more, paste_all}
 use Rattle.octets.proofs.parts.copy.Statement.{statement}
 use Rattle.octets.proofs.parts.copy.Tie as tie
 
-abbrev invariant-loop : tie.invariant-loop
+abbrev invariant-loop : tie.invariant-loop-i
 invariant-loop dst₀ at src i₀ dst i = (i ≤ length src) × (length dst ≡ length dst₀) × (dst ≡ paste dst₀ at src i)
 
-abbrev decreases-loop : tie.decreases-loop
+abbrev decreases-loop : tie.decreases-loop-i
 decreases-loop dst₀ at src i₀ dst i = length src - i
 
-loop-holds : tie.Need-loop-init invariant-loop decreases-loop
+loop-holds : tie.Need-loop-i-init invariant-loop decreases-loop
 loop-holds c = (omega arith, refl, paste-zero c.args.dst.now c.args.at c.args.src.now)
 
-loop-again : tie.Need-loop-preserved invariant-loop decreases-loop
+loop-again : tie.Need-loop-i-preserved invariant-loop decreases-loop
 loop-again c =
     let b = c.before.before in
     let src = b.before.args.src.now in (
       omega arith,
       simp length-set (omega arith),
-      ap (λ (d : List ℕ). set d (b.before.args.at + b.loop.i) (get_or src b.loop.i 0)) b.loop.invariant.2
-          ∙ paste_more b.before.args.dst.now b.before.args.at src b.loop.i (omega arith) (omega arith),
+      ap (λ (d : List ℕ). set d (b.before.args.at + b.loop-i.i) (get_or src b.loop-i.i 0)) b.loop-i.invariant.2
+          ∙ paste_more b.before.args.dst.now b.before.args.at src b.loop-i.i (omega arith) (omega arith),
     )
 
 returns : tie.Need-returns invariant-loop decreases-loop
 returns c =
     let b = c.before in
-    b.loop.invariant.2 ∙ paste_all b.before.args.dst.now b.before.args.at b.before.args.src.now b.loop.i (omega arith)
+    b.loop-i.invariant.2 ∙ paste_all b.before.args.dst.now b.before.args.at b.before.args.src.now b.loop-i.i (omega arith)
     (omega arith)
 
 pub copy_spec : {M : Type 1} → statement M

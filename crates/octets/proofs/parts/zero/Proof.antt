@@ -11,23 +11,23 @@ use Rattle.octets.proofs.TestLaws.{all_zero-more, all_zero-all}
 use Rattle.octets.proofs.parts.zero.Statement.{statement}
 use Rattle.octets.proofs.parts.zero.Tie as tie
 
-abbrev invariant-loop : tie.invariant-loop
+abbrev invariant-loop : tie.invariant-loop-i
 invariant-loop s bits₀ i₀ bits i = (i ≤ length s) × (all_zero s ≡ (eqb bits 0 && all_zero (drop i s)))
 
-abbrev decreases-loop : tie.decreases-loop
+abbrev decreases-loop : tie.decreases-loop-i
 decreases-loop s bits₀ i₀ bits i = length s - i
 
-loop-again : tie.Need-loop-preserved invariant-loop decreases-loop
+loop-again : tie.Need-loop-i-preserved invariant-loop decreases-loop
 loop-again c =
     let b = c.before.before in
-    (omega arith, b.loop.invariant.1 ∙ all_zero-more b.before.args.s.now b.loop.i b.loop.bits (omega arith))
+    (omega arith, b.loop-i.invariant.1 ∙ all_zero-more b.before.args.s.now b.loop-i.i b.loop-i.bits (omega arith))
 
 returns : tie.Need-returns invariant-loop decreases-loop
 returns c =
     let b = c.before in
-    sym (b.loop.invariant.1 ∙ all_zero-all b.before.args.s.now b.loop.i b.loop.bits (omega arith))
+    sym (b.loop-i.invariant.1 ∙ all_zero-all b.before.args.s.now b.loop-i.i b.loop-i.bits (omega arith))
 
-pub zero-spec : {M : Type 1} → statement M
-zero-spec =
+pub zero_spec : {M : Type 1} → statement M
+zero_spec =
     tie.close
     (tie.spec invariant-loop decreases-loop (λ c. (omega arith, refl)) (λ c. search rules) (λ c. search rules) (λ c. search rules) loop-again returns)
