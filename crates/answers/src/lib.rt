@@ -1,4 +1,5 @@
 // The numbered answers, the answer record, and the rules on arguments that several calls share.
+#![tactic(auto)]
 pub mod codes;
 pub mod rules;
 

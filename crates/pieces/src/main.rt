@@ -1,5 +1,6 @@
 // Cuts short command files in every way into two pieces and into three, and into single bytes.
 // A line a file: the answer of the whole run, how many cuts were tried, and how many left that answer and memory.
+#![tactic(auto)]
 mod cuts;
 mod files;
 mod unit;

@@ -7,7 +7,7 @@ use Rattle.answers.proofs.refused.Statement.{statement}
 use Rattle.answers.proofs.refused.Tie as tie
 
 returns : tie.Need-returns
-returns c = c.told.ensures ∙ ap (λ (s : Stop). told s 0 0 0) c.before.stop-at.ensures
+returns c = c.told.ensures ∙ ap (λ (s : Stop). told s 0 0 0) c.before.stop_at.ensures
 
-pub refused-spec : {M : Type 1} → statement M
-refused-spec = tie.close (tie.spec (λ c κs. search rules) (λ c κs. search rules) returns)
+pub refused_spec : {M : Type 1} → statement M
+refused_spec = tie.close (tie.spec (λ c κs. search rules) (λ c κs. search rules) returns)

@@ -13,14 +13,14 @@ returns c =
     let d₂ = d₃.before.before.before.before in
     let d₁ = d₂.before.before.before.before in
     let start = d₁.before.before.before in (
-      record-written start.args.a start.args.answer.now _ _ _ _ _ start.requires d₁.put-little8.ensures
-          d₂.put-little82.ensures
-          d₃.put-little83.ensures d₄.put-little84.ensures d₅.put-little85.ensures,
+      record-written start.args.a start.args.answer.now _ _ _ _ _ start.requires d₁.put_little8.ensures
+          d₂.put_little8-2.ensures
+          d₃.put_little8-3.ensures d₄.put_little8-4.ensures d₅.put_little8-5.ensures,
       refl,
     )
 
-pub write-answer-spec : {M : Type 1} → statement M
-write-answer-spec =
+pub write_answer_spec : {M : Type 1} → statement M
+write_answer_spec =
     tie.close
     (tie.spec (λ c κs. search rules) (λ c κs. search rules) (λ c κs. search rules) (λ c κs. search rules) (λ c κs. search rules)
     (λ c. search rules) returns)
