@@ -12,14 +12,14 @@ use octets::numbers;
 pub const RECORD_LENGTH: usize = 40;
 
 // What a stop says: the code, and the place.
-#[derive(Drop)]
+#[derive(Clone, Copy)]
 pub struct Stop {
     pub code: u64,
     pub place: u64,
 }
 
 // What a call answers.
-#[derive(Drop)]
+#[derive(Clone, Copy)]
 pub struct Answer {
     pub code: u64,
     pub place: u64,

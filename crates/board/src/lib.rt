@@ -5,7 +5,7 @@ pub mod map;
 pub mod reach;
 
 // What a lookup finds: a word of the record with both inputs, or no such record.
-#[derive(Drop)]
+#[derive(Clone, Copy)]
 pub enum Found {
     Word(u32),
     Nothing,

@@ -12,7 +12,7 @@ use answers::{Stop, codes};
 use octets::parts;
 
 // How many blocks are proved, and why not the next.
-#[derive(Drop)]
+#[derive(Clone, Copy)]
 pub struct ProvedBlocks {
     pub count: u64,
     pub stop: Stop,

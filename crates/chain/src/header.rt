@@ -13,7 +13,7 @@ use octets::{numbers, parts};
 pub const MAGIC: u32 = 0xe6019598;
 
 // What a header says of its blocks.
-#[derive(Drop)]
+#[derive(Clone, Copy)]
 pub struct Stream {
     pub count: u32,
     pub block_size: u32,
@@ -23,7 +23,7 @@ pub struct Stream {
 }
 
 // The signed header's fields but for the root hash, which stands behind them.
-#[derive(Drop)]
+#[derive(Clone, Copy)]
 pub struct Header {
     pub magic: u32,
     pub stream: Stream,
@@ -33,7 +33,7 @@ pub struct Header {
 }
 
 // What an image gets before any block is looked at, and the numbers of its blocks: all zero where it is refused.
-#[derive(Drop)]
+#[derive(Clone, Copy)]
 pub struct Judgement {
     pub code: u64,
     pub stream: Stream,

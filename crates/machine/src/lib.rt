@@ -16,14 +16,14 @@ ghost use Rattle.machine.specs.Memory.{applied};
 use answers::{Answer, Stop, codes};
 
 // What a run is given besides the unit's map and table: the file's length, and the mode.
-#[derive(Drop)]
+#[derive(Clone, Copy)]
 pub struct Job {
     pub length: u64,
     pub mode: u64,
 }
 
 // The commands that act on the unit.
-#[derive(Drop)]
+#[derive(Clone, Copy)]
 pub enum Command {
     Write,
     Fill,
@@ -32,7 +32,7 @@ pub enum Command {
 }
 
 // What a command ID names.
-#[derive(Drop)]
+#[derive(Clone, Copy)]
 pub enum Named {
     Known(Command),
     Skipped,
@@ -40,7 +40,7 @@ pub enum Named {
 }
 
 // What the next byte is read as.
-#[derive(Drop)]
+#[derive(Clone, Copy)]
 pub enum Phase {
     // one of the file's first 8 bytes
     Magic,
@@ -57,14 +57,14 @@ pub enum Phase {
 }
 
 // Whether a run has stopped, and with what.
-#[derive(Drop)]
+#[derive(Clone, Copy)]
 pub enum Halt {
     At(Stop),
     Not,
 }
 
 // What a run has done so far: commands done, bytes stored, and the last entry, if one was set.
-#[derive(Drop)]
+#[derive(Clone, Copy)]
 pub struct Tally {
     pub commands: u64,
     pub stored: u64,
@@ -75,7 +75,7 @@ pub struct Tally {
 // Where a run stands between two pieces. The bytes so far of the magic, or of the command's header and parameters,
 // are the first `kept` of `gathered`; `start` and `next` are the file offsets of the command's first byte and of the
 // next byte.
-#[derive(Drop)]
+#[derive(Clone, Copy)]
 pub struct Machine {
     pub phase: Phase,
     pub gathered: [u8; GATHERED],
@@ -86,7 +86,7 @@ pub struct Machine {
 }
 
 // A machine while it takes a piece: without its gathered bytes, so that these are not copied at each step.
-#[derive(Drop)]
+#[derive(Clone, Copy)]
 pub struct Control {
     pub phase: Phase,
     pub kept: usize,
@@ -96,14 +96,14 @@ pub struct Control {
 }
 
 // What bytes leave: the control, and how many of them were used.
-#[derive(Drop)]
+#[derive(Clone, Copy)]
 pub struct Taken {
     pub control: Control,
     pub used: usize,
 }
 
 // What gathering leaves: the control, how many bytes were used, and whether all that are awaited are there.
-#[derive(Drop)]
+#[derive(Clone, Copy)]
 pub struct Gathering {
     pub control: Control,
     pub used: usize,

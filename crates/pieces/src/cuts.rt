@@ -10,7 +10,7 @@ use machine::{Job, Machine};
 use octets::parts;
 
 // Where a file is cut: at an offset, at two, or at every one.
-#[derive(Drop)]
+#[derive(Clone, Copy)]
 pub enum Cut {
     Two { first: usize },
     Three { first: usize, second: usize },
@@ -18,7 +18,7 @@ pub enum Cut {
 }
 
 // How many cuts were tried, and how many of them left what the whole run left.
-#[derive(Drop)]
+#[derive(Clone, Copy)]
 pub struct Count {
     pub tried: u64,
     pub agree: u64,

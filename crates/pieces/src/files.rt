@@ -1,7 +1,7 @@
 // Command files, byte by byte.
 
 // A file in the making: the first `size` of the bytes.
-#[derive(Drop)]
+#[derive(Clone, Copy)]
 pub struct File {
     pub bytes: [u8; 160],
     pub size: usize,

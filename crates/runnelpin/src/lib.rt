@@ -10,7 +10,7 @@ ghost use Rattle.runnelpin.specs.Field.{field_of};
 
 // A part of a lent slice: its offset, and how many bytes it has.
 #[repr(C)]
-#[derive(Drop)]
+#[derive(Clone, Copy)]
 pub struct Field {
     pub start: u64,
     pub length: u64,

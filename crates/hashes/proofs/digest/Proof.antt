@@ -5,32 +5,32 @@ use Rattle.hashes.proofs.Storing.{sha2-of, zeros-in-sixty-four}
 use Rattle.hashes.proofs.digest.Statement.{statement}
 use Rattle.hashes.proofs.digest.Tie as tie
 
-returns : tie.Need-returns
+returns : tie.Need-returns-in-2
 returns c =
     let b = c.before.before in
-    answer-by _ (has-2 b.before.match.keys1) _
-    (sha2-of SHA2-256 _ 8 (omega arith) (omega arith) b.initial-256.ensures c.digest.ensures) refl
+    answer-by _ (has-2 b.before.in_default.keys1) _
+    (sha2-of SHA2-256 _ 8 (omega arith) (omega arith) b.initial_256.ensures c.digest.ensures) refl
 
-returns-2 : tie.Need-returns-2
+returns-2 : tie.Need-returns-in-3
 returns-2 c =
     let b = c.before.before in
-    answer-by _ (has-3 b.before.match.keys2) _
-    (sha2-of SHA2-384 _ 6 (omega arith) (omega arith) b.initial-384.ensures c.digest2.ensures) refl
+    answer-by _ (has-3 b.before.in_default.keys2) _
+    (sha2-of SHA2-384 _ 6 (omega arith) (omega arith) b.initial_384.ensures c.digest-in-3.ensures) refl
 
-returns-3 : tie.Need-returns-3
+returns-3 : tie.Need-returns-in-4
 returns-3 c =
     let b = c.before.before in
-    answer-by _ (has-4 b.before.match.keys3) _
-    (sha2-of SHA2-512 _ 8 (omega arith) (omega arith) b.initial-512.ensures c.digest3.ensures) refl
+    answer-by _ (has-4 b.before.in_default.keys3) _
+    (sha2-of SHA2-512 _ 8 (omega arith) (omega arith) b.initial_512.ensures c.digest-in-4.ensures) refl
 
-returns-4 : tie.Need-returns-4
+returns-4 : tie.Need-returns-in_default
 returns-4 c =
     let none = c.before.before in
-    answer-by _ (has-none none.match.rest.0.0.1 none.match.rest.0.1 none.match.rest.1) _
+    answer-by _ (has-none none.in_default.rest.0.0.1 none.in_default.rest.0.1 none.in_default.rest.1) _
     (c.fill.ensures ∙ zeros-in-sixty-four none.before.before.args.out.now (search rules)) refl
 
-pub digest-spec : {M : Type 1} → statement M
-digest-spec =
+pub digest_spec : {M : Type 1} → statement M
+digest_spec =
     tie.close
     (tie.spec (λ c κs. search rules) (λ c κs. search rules) (λ c κs. search rules) (λ c κs. search rules) (λ c κs. search rules)
     (λ c κs. search rules) (λ c κs. search rules) returns returns-2 returns-3 returns-4)

@@ -14,5 +14,5 @@ returns c =
     let table = c.args.table.now in
     ap (λ (n : ℕ). not (eqb n 0)) (sym (length-records (leaf table) 0 (length table / 24)))
 
-pub is-available-spec : {M : Type 1} → statement M
-is-available-spec = tie.close (tie.spec returns)
+pub is_available_spec : {M : Type 1} → statement M
+is_available_spec = tie.close (tie.spec returns)

@@ -9,48 +9,48 @@ use Rattle.board.proofs.WalkLaws.{leaves_left, leaves_all, leaves_none, lookup-h
 use Rattle.board.proofs.cpuid.lookup.Statement.{statement}
 use Rattle.board.proofs.cpuid.lookup.Tie as tie
 
-abbrev invariant-loop : tie.invariant-loop
+abbrev invariant-loop : tie.invariant-loop-i
 invariant-loop table eax ecx register n i₀ i = (i ≤ n) × (lookup (leaves table) eax ecx register ≡ lookup (leaves_left table i) eax ecx register)
 
-abbrev decreases-loop : tie.decreases-loop
+abbrev decreases-loop : tie.decreases-loop-i
 decreases-loop table eax ecx register n i₀ i = n - i
 
-loop-holds : tie.Need-loop-init invariant-loop decreases-loop
+loop-holds : tie.Need-loop-i-init invariant-loop decreases-loop
 loop-holds c =
     let a = c.before.args in
     (omega arith, ap (λ (ls : List Leaf). lookup ls a.eax a.ecx a.register) (leaves_all a.table.now))
 
-returns : tie.Need-returns invariant-loop decreases-loop
+returns : tie.Need-returns-then-has_inputs invariant-loop decreases-loop
 returns c =
     let d = c.before.before in
-    let l = d.before.before.loop in
+    let l = d.before.before.loop-i in
     let a = d.before.before.before.before.args in
     ap Word c.result.ensures
     ∙ sym
     (l.invariant.1
-    ∙ lookup-here a.table.now l.i a.eax a.ecx a.register (omega arith) d.has-inputs.result d.has-inputs.ensures
-    c.before.if1.true)
+    ∙ lookup-here a.table.now l.i a.eax a.ecx a.register (omega arith) d.has_inputs.result d.has_inputs.ensures
+    c.before.if-has_inputs.true)
 
-loop-again : tie.Need-loop-preserved invariant-loop decreases-loop
+loop-again : tie.Need-loop-i-preserved invariant-loop decreases-loop
 loop-again c =
     let d = c.before in
-    let l = d.before.before.loop in
+    let l = d.before.before.loop-i in
     let a = d.before.before.before.before.args in (
       omega arith,
       l.invariant.1
-          ∙ lookup-on a.table.now l.i a.eax a.ecx a.register (omega arith) d.has-inputs.result d.has-inputs.ensures
-          c.if1.false,
+          ∙ lookup-on a.table.now l.i a.eax a.ecx a.register (omega arith) d.has_inputs.result d.has_inputs.ensures
+          c.if-has_inputs.false,
     )
 
-returns-2 : tie.Need-returns-2 invariant-loop decreases-loop
+returns-2 : tie.Need-returns invariant-loop decreases-loop
 unfolding lookup
 returns-2 c =
     let a = c.before.before.before.args in
-    let l = c.before.loop in
+    let l = c.before.loop-i in
     sym (l.invariant.1 ∙ ap (λ (ls : List Leaf). lookup ls a.eax a.ecx a.register) (leaves_none a.table.now l.i (omega arith)))
 
-pub lookup-spec : {M : Type 1} → statement M
-lookup-spec =
+pub lookup_spec : {M : Type 1} → statement M
+lookup_spec =
     tie.close
     (tie.spec invariant-loop decreases-loop loop-holds (λ c κs. omega arith) (λ c κs. omega arith) returns (λ c. omega arith)
     (λ c. omega arith) loop-again returns-2)

@@ -16,20 +16,20 @@ use Rattle.board.proofs.cpuid.table_code.Tie as tie
 abbrev given : tie.After-ascends → List ℕ
 given k = k.before.before.before.before.args.table.now
 
-returns : tie.Need-returns
-returns c = table-refused c.before.before.args.table.now (λ t. c.if1.true t.records)
+returns : tie.Need-returns-then-table-ne0
+returns c = table-refused c.before.before.args.table.now (λ t. c.if-table-ne0.true t.records)
 
-returns-2 : tie.Need-returns-2
+returns-2 : tie.Need-returns-then-table-gt64
 returns-2 c = table-refused c.before.before.before.args.table.now (λ t. omega arith)
 
-returns-3 : tie.Need-returns-3
+returns-3 : tie.Need-returns-then-not-ascends
 returns-3 c =
     let table = given c.before in
     table-refused table
-    (λ t. false≢true (sym (not-true _ c.if3.true) ∙ c.before.ascends.ensures
+    (λ t. false≢true (sym (not-true _ c.if-not-ascends.true) ∙ c.before.ascends.ensures
     ∙ ascends-holds (leaf table) (length table / 24) t.order))
 
-returns-4 : tie.Need-returns-4
+returns-4 : tie.Need-returns
 returns-4 c =
     let table = given c.before in
     sym
@@ -37,8 +37,8 @@ returns-4 c =
     (record {
       records = omega arith;
       bounded = omega arith;
-      order = ascends-means (leaf table) (length table / 24) (sym c.before.ascends.ensures ∙ not-false _ c.if3.false);
+      order = ascends-means (leaf table) (length table / 24) (sym c.before.ascends.ensures ∙ not-false _ c.if-not-ascends.false);
     }))
 
-pub table-code-spec : {M : Type 1} → statement M
-table-code-spec = tie.close (tie.spec returns returns-2 (λ c κs. search rules) returns-3 returns-4)
+pub table_code_spec : {M : Type 1} → statement M
+table_code_spec = tie.close (tie.spec returns returns-2 (λ c κs. search rules) returns-3 returns-4)

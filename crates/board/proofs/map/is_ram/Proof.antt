@@ -8,7 +8,7 @@ use Rattle.board.proofs.TestLaws.{leb-same}
 use Rattle.board.proofs.map.is_ram.Statement.{statement}
 use Rattle.board.proofs.map.is_ram.Tie as tie
 
-sub-result : tie.Need-overflow-sub-result
+sub-result : tie.Need-overflow_sub-result
 sub-result c =
     let a = c.before.before.args in
     omega (arith, uncovered-above (regions a.map.now) a.a)
@@ -20,5 +20,5 @@ returns c =
     let above = uncovered-above (regions a.map.now) a.a in
     leb-same a.n (c.uncovered.result - a.a) (a.a + a.n) u (λ h. omega arith) (λ h. omega arith)
 
-pub is-ram-spec : {M : Type 1} → statement M
-is-ram-spec = tie.close (tie.spec (λ c κs. search rules) sub-result returns)
+pub is_ram_spec : {M : Type 1} → statement M
+is_ram_spec = tie.close (tie.spec (λ c κs. search rules) sub-result returns)

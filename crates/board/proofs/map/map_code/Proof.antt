@@ -10,44 +10,44 @@ use Rattle.board.proofs.map.map_code.Statement.{statement}
 use Rattle.board.proofs.map.map_code.Tie as tie
 
 -- what the code was given, from the walk over the regions on
-abbrev given : tie.After-in-order → tie.Start
+abbrev given : tie.After-in_order → tie.Start
 given k = let counted = k.before.before in counted.before.before.before
 
-returns : tie.Need-returns
+returns : tie.Need-returns-then-map-ne0
 returns c =
     let a = c.before.before.args in
-    map-refused a.map.now a.memory (λ t. c.if1.true t.records)
+    map-refused a.map.now a.memory (λ t. c.if-map-ne0.true t.records)
 
-returns-2 : tie.Need-returns-2
+returns-2 : tie.Need-returns-then-n-eq0
 returns-2 c =
     let a = c.before.before.before.args in
     map-refused a.map.now a.memory (λ t. omega arith)
 
-returns-3 : tie.Need-returns-3
+returns-3 : tie.Need-returns-then-n-gt16
 returns-3 c =
     let a = c.before.before.before.before.args in
     map-refused a.map.now a.memory (λ t. omega arith)
 
-returns-4 : tie.Need-returns-4
+returns-4 : tie.Need-returns-then-not-in_order
 returns-4 c =
     let a = (given c.before).args in
     map-refused a.map.now a.memory
-    (λ t. false≢true (sym (not-true _ c.if4.true) ∙ c.before.in_order.ensures ∙ ordered-holds 0 (regions a.map.now) t.order))
+    (λ t. false≢true (sym (not-true _ c.if-not-in_order.true) ∙ c.before.in_order.ensures ∙ ordered-holds 0 (regions a.map.now) t.order))
 
-total-requires : tie.Need-total-requires
-total-requires c κs = sym c.before.in_order.ensures ∙ not-false _ c.if4.false
+total-requires : tie.Need-total-sum-requires
+total-requires c κs = sym c.before.in_order.ensures ∙ not-false _ c.if-not-in_order.false
 
-returns-5 : tie.Need-returns-5
+returns-5 : tie.Need-returns-then-sum-gt4294967296
 returns-5 c =
     let a = (given c.before.before.before).args in
     map-refused a.map.now a.memory (λ t. omega arith)
 
-returns-6 : tie.Need-returns-6
+returns-6 : tie.Need-returns-then-memory-sum
 returns-6 c =
     let a = (given c.before.before.before.before).args in
-    map-refused a.map.now a.memory (λ t. c.if6.true (omega arith))
+    map-refused a.map.now a.memory (λ t. c.if-memory-sum.true (omega arith))
 
-returns-7 : tie.Need-returns-7
+returns-7 : tie.Need-returns
 returns-7 c =
     let a = (given c.before.before.before.before).args in
     let d = c.before.before.before in
@@ -57,11 +57,11 @@ returns-7 c =
       records = omega arith;
       nonempty = omega arith;
       bounded = omega arith;
-      order = ordered-means 0 (regions a.map.now) (sym d.before.in_order.ensures ∙ not-false _ d.if4.false);
+      order = ordered-means 0 (regions a.map.now) (sym d.before.in_order.ensures ∙ not-false _ d.if-not-in_order.false);
       small = omega arith;
       lent = omega arith;
     }))
 
-pub map-code-spec : {M : Type 1} → statement M
-map-code-spec =
+pub map_code_spec : {M : Type 1} → statement M
+map_code_spec =
     tie.close (tie.spec returns returns-2 returns-3 (λ c κs. search rules) returns-4 total-requires returns-5 returns-6 returns-7)

@@ -6,10 +6,10 @@ use Rattle.board.specs.Reach.{mode_rules}
 use Rattle.board.proofs.reach.mode_code.Statement.{statement}
 use Rattle.board.proofs.reach.mode_code.Tie as tie
 
-pub mode-code-spec : {M : Type 1} → statement M
-mode-code-spec =
+pub mode_code_spec : {M : Type 1} → statement M
+mode_code_spec =
     tie.close
     (tie.spec
-    (λ c. sym (ap (λ (m : ℕ). first_broken (mode_rules m)) c.match.keys1))
-    (λ c. sym (ap (λ (m : ℕ). first_broken (mode_rules m)) c.match.keys2))
-    (λ c. simp (ne_eqb _ _ c.match.rest.0.1, ne_eqb _ _ c.match.rest.1)))
+    (λ c. sym (ap (λ (m : ℕ). first_broken (mode_rules m)) c.in_default.keys1))
+    (λ c. sym (ap (λ (m : ℕ). first_broken (mode_rules m)) c.in_default.keys2))
+    (λ c. simp (ne_eqb _ _ c.in_default.rest.0.1, ne_eqb _ _ c.in_default.rest.1)))

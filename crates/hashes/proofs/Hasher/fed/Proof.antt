@@ -3,7 +3,7 @@ use Rattle.hashes.specs.Tables.{initial256, initial384, initial512}
 use Rattle.hashes.proofs.Hasher.fed.Statement.{statement}
 use Rattle.hashes.proofs.Hasher.fed.Tie as tie
 
-returns : tie.Need-returns
+returns : tie.Need-returns-in-2
 returns c =
     λ i x f. record {
       begun = f.begun;
@@ -12,25 +12,25 @@ returns c =
       by_4 = λ e. absurd (omega arith);
     }
 
-returns-2 : tie.Need-returns-2
+returns-2 : tie.Need-returns-in-3
 returns-2 c =
     λ i x f. record {
       begun = f.begun;
       by_2 = λ e. absurd (omega arith);
-      by-3 = λ e. c.fed2.ensures initial384 x (f.by-3 e);
-      by_4 = λ e. c.fed2.ensures initial512 x (f.by_4 e);
+      by-3 = λ e. c.fed-in-3.ensures initial384 x (f.by-3 e);
+      by_4 = λ e. c.fed-in-3.ensures initial512 x (f.by_4 e);
     }
 
-returns-3 : tie.Need-returns-3
+returns-3 : tie.Need-returns-in_default
 returns-3 c =
     λ i x f. record {
       begun = f.begun;
-      by_2 = λ e. absurd (c.before.match.rest.1 (f.begun ∙ e));
+      by_2 = λ e. absurd (c.before.in_default-1.rest.1 (f.begun ∙ e));
       by-3 = λ e. absurd (omega arith);
       by_4 = λ e. absurd (omega arith);
     }
 
-returns-4 : tie.Need-returns-4
+returns-4 : tie.Need-returns-in_default-2
 returns-4 c =
     λ i x f. record {
       begun = f.begun;
@@ -39,5 +39,5 @@ returns-4 c =
       by_4 = λ e. absurd (omega arith);
     }
 
-pub fed-spec : {M : Type 1} → statement M
-fed-spec = tie.close (tie.spec (λ c κs. search rules) (λ c κs. search rules) returns returns-2 returns-3 returns-4)
+pub fed_spec : {M : Type 1} → statement M
+fed_spec = tie.close (tie.spec (λ c κs. search rules) (λ c κs. search rules) returns returns-2 returns-3 returns-4)

@@ -7,5 +7,5 @@ use Rattle.hashes.proofs.narrow.big_sigma_0.Tie as tie
 returns : tie.Need-returns
 returns c = big-sigma-chained narrow.w narrow.Σ₀ c.args.x c.ranges.x.fits (omega arith) (omega arith) (omega arith)
 
-pub big-sigma-0-spec : {M : Type 1} → statement M
-big-sigma-0-spec = tie.close (tie.spec returns)
+pub big_sigma_0_spec : {M : Type 1} → statement M
+big_sigma_0_spec = tie.close (tie.spec returns)

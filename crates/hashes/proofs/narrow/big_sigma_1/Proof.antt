@@ -7,5 +7,5 @@ use Rattle.hashes.proofs.narrow.big_sigma_1.Tie as tie
 returns : tie.Need-returns
 returns c = big-sigma-chained narrow.w narrow.Σ₁ c.args.x c.ranges.x.fits (omega arith) (omega arith) (omega arith)
 
-pub big-sigma-1-spec : {M : Type 1} → statement M
-big-sigma-1-spec = tie.close (tie.spec returns)
+pub big_sigma_1_spec : {M : Type 1} → statement M
+big_sigma_1_spec = tie.close (tie.spec returns)

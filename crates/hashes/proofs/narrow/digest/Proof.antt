@@ -5,5 +5,5 @@ use Rattle.hashes.proofs.narrow.digest.Tie as tie
 returns : tie.Need-returns
 returns c = c.finish.ensures _ _ (search rules) (c.before.before.fed.ensures _ [] c.before.before.before.begin.ensures)
 
-pub digest-spec : {M : Type 1} → statement M
-digest-spec = tie.close (tie.spec (λ c κs. search rules) (λ c κs. search rules) (λ c κs. search rules) returns)
+pub digest_spec : {M : Type 1} → statement M
+digest_spec = tie.close (tie.spec (λ c κs. search rules) (λ c κs. search rules) (λ c κs. search rules) returns)

@@ -8,11 +8,11 @@ returns : tie.Need-returns
 returns c =
     let words = c.before.before.before.before in
     let first = words.before in
-    λ H M r. round-and-word narrow H M _ _ first.before.before.before.requires.1 (search rules) r first.round.ensures
+    λ H M r. round-and-word narrow H M _ _ first.before.before.before.requires.1 (search rules) r first.round-r.ensures
     c.next_word.ensures
 
-pub early-round-spec : {M : Type 1} → statement M
-early-round-spec =
+pub early_round_spec : {M : Type 1} → statement M
+early_round_spec =
     tie.close
     (tie.spec (λ c. search rules) (λ c. search rules) (λ c. search rules) (λ c. search rules) (λ c κs. search rules) (λ c. search rules)
     (λ c. search rules) (λ c. search rules) (λ c. search rules) (λ c. search rules) (λ c. search rules) (λ c. search rules)

@@ -7,5 +7,5 @@ returns : tie.Need-returns
 unfolding initial256
 returns c = refl
 
-pub initial-256-spec : {M : Type 1} → statement M
-initial-256-spec = tie.close (tie.spec returns)
+pub initial_256_spec : {M : Type 1} → statement M
+initial_256_spec = tie.close (tie.spec returns)

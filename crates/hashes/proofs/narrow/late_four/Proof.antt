@@ -6,12 +6,12 @@ use Rattle.hashes.proofs.narrow.late_four.Tie as tie
 
 returns : tie.Need-returns
 returns c =
-    four narrow _ c.before.before.before.late-round.ensures c.before.before.late-round2.ensures
-    c.before.late-round3.ensures
-    c.late-round4.ensures
+    four narrow _ c.before.before.before.late_round-x.ensures c.before.before.late_round-y.ensures
+    c.before.late_round-z.ensures
+    c.late_round.ensures
 
-pub late-four-spec : {M : Type 1} → statement M
-late-four-spec =
+pub late_four_spec : {M : Type 1} → statement M
+late_four_spec =
     tie.close
     (tie.spec (λ c κs. (omega arith, c.requires.1)) (λ c. omega arith) (λ c κs. (omega arith, c.before.requires.1)) (λ c. omega arith)
     (λ c κs. (omega arith, c.before.before.requires.1)) (λ c. omega arith) (λ c κs. (omega arith, c.before.before.before.requires.1))

@@ -7,7 +7,7 @@ use Rattle.hashes.proofs.narrow.late_round.Tie as tie
 returns : tie.Need-returns
 returns c = λ H M r. round-alone narrow H M _ c.before.before.before.requires.1 (search rules) (search rules) r c.round.ensures
 
-pub late-round-spec : {M : Type 1} → statement M
-late-round-spec =
+pub late_round_spec : {M : Type 1} → statement M
+late_round_spec =
     tie.close
     (tie.spec (λ c. search rules) (λ c. search rules) (λ c. search rules) (λ c. search rules) (λ c κs. search rules) returns)

@@ -6,5 +6,5 @@ use Rattle.hashes.proofs.narrow.majority.Tie as tie
 returns : tie.Need-returns
 returns c = maj-short narrow.w c.args.x c.args.y c.args.z c.ranges.x.fits c.ranges.y.fits c.ranges.z.fits
 
-pub majority-spec : {M : Type 1} → statement M
-majority-spec = tie.close (tie.spec returns)
+pub majority_spec : {M : Type 1} → statement M
+majority_spec = tie.close (tie.spec returns)

@@ -6,7 +6,7 @@ use Rattle.hashes.proofs.narrow.put_length.Tie as tie
 returns : tie.Need-returns
 returns c =
     let a = c.before.before.args in
-    field-in-one a.last.now 56 a.n c.put-big8.ensures
+    field-in-one a.last.now 56 a.n c.put_big8.ensures
 
-pub put-length-spec : {M : Type 1} → statement M
-put-length-spec = tie.close (tie.spec (λ c κs. search rules) returns)
+pub put_length_spec : {M : Type 1} → statement M
+put_length_spec = tie.close (tie.spec (λ c κs. search rules) returns)

@@ -7,5 +7,5 @@ use Rattle.hashes.proofs.narrow.small_sigma_1.Tie as tie
 returns : tie.Need-returns
 returns c = small-sigma-chained narrow.w narrow.σ₁ c.args.x c.ranges.x.fits (omega arith) (omega arith)
 
-pub small-sigma-1-spec : {M : Type 1} → statement M
-small-sigma-1-spec = tie.close (tie.spec returns)
+pub small_sigma_1_spec : {M : Type 1} → statement M
+small_sigma_1_spec = tie.close (tie.spec returns)

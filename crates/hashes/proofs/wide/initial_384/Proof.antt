@@ -7,5 +7,5 @@ returns : tie.Need-returns
 unfolding initial384
 returns c = refl
 
-pub initial-384-spec : {M : Type 1} → statement M
-initial-384-spec = tie.close (tie.spec returns)
+pub initial_384_spec : {M : Type 1} → statement M
+initial_384_spec = tie.close (tie.spec returns)

@@ -7,5 +7,5 @@ returns : tie.Need-returns
 unfolding initial512
 returns c = refl
 
-pub initial-512-spec : {M : Type 1} → statement M
-initial-512-spec = tie.close (tie.spec returns)
+pub initial_512_spec : {M : Type 1} → statement M
+initial_512_spec = tie.close (tie.spec returns)

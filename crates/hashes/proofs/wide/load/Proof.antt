@@ -4,20 +4,20 @@ use Rattle.hashes.proofs.Blocks.{Loading, load-none, load-more, load-all}
 use Rattle.hashes.proofs.wide.load.Statement.{statement}
 use Rattle.hashes.proofs.wide.load.Tie as tie
 
-abbrev invariant-loop : tie.invariant-loop
+abbrev invariant-loop : tie.invariant-loop-i
 invariant-loop w₀ bytes at i₀ w i = Loading wide bytes at 80 w i
 
-abbrev decreases-loop : tie.decreases-loop
+abbrev decreases-loop : tie.decreases-loop-i
 decreases-loop w₀ bytes at i₀ w i = 16 - i
 
-loop-holds : tie.Need-loop-init invariant-loop decreases-loop
+loop-holds : tie.Need-loop-i-init invariant-loop decreases-loop
 loop-holds c = load-none wide _ _ (search rules)
 
-loop-again : tie.Need-loop-preserved invariant-loop decreases-loop
-loop-again c = load-more wide _ _ (search rules) (omega arith) c.before.before.loop.invariant c.big8.ensures
+loop-again : tie.Need-loop-i-preserved invariant-loop decreases-loop
+loop-again c = load-more wide _ _ (search rules) (omega arith) c.before.before.loop-i.invariant c.big8.ensures
 
 returns : tie.Need-returns invariant-loop decreases-loop
-returns c = load-all wide _ _ (search rules) c.before.loop.invariant
+returns c = load-all wide _ _ (search rules) c.before.loop-i.invariant
 
 pub load_spec : {M : Type 1} → statement M
 load_spec =

@@ -8,10 +8,10 @@ returns : tie.Need-returns
 returns c =
     let first = c.before.before.before.before in
     let a = first.before.args in
-    mixed-of wide a.x a.y a.z a.u first.small-sigma-1.ensures c.before.before.before.wrapping-add-u64.ensures
-    c.before.before.small-sigma-0.ensures c.before.wrapping-add-u642.ensures c.wrapping-add-u643.ensures
+    mixed-of wide a.x a.y a.z a.u first.small_sigma_1.ensures c.before.before.before.wrapping_add_u64-p.ensures
+    c.before.before.small_sigma_0.ensures c.before.wrapping_add_u64-q.ensures c.wrapping_add_u64.ensures
 
-pub next-word-spec : {M : Type 1} → statement M
-next-word-spec =
+pub next_word_spec : {M : Type 1} → statement M
+next_word_spec =
     tie.close
     (tie.spec (λ c κs. search rules) (λ c κs. search rules) (λ c κs. search rules) (λ c κs. search rules) (λ c κs. search rules) returns)

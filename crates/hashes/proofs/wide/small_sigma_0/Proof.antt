@@ -7,5 +7,5 @@ use Rattle.hashes.proofs.wide.small_sigma_0.Tie as tie
 returns : tie.Need-returns
 returns c = small-sigma-chained wide.w wide.σ₀ c.args.x c.ranges.x.fits (omega arith) (omega arith)
 
-pub small-sigma-0-spec : {M : Type 1} → statement M
-small-sigma-0-spec = tie.close (tie.spec returns)
+pub small_sigma_0_spec : {M : Type 1} → statement M
+small_sigma_0_spec = tie.close (tie.spec returns)

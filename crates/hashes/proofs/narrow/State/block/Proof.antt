@@ -13,7 +13,7 @@ returns c =
     let a = loaded.before.before.before.args in
     let H = narrow_words a.self in
     let M = words_at narrow a.bytes.now a.at 16 in
-    all_done narrow H M (c.before.late-rounds.ensures H M (early.early-rounds.ensures H M (loaded.load.ensures H)))
+    all_done narrow H M (c.before.late_rounds-y.ensures H M (early.early_rounds-x.ensures H M (loaded.load.ensures H)))
     c.plus.ensures
 
 pub block_spec : {M : Type 1} → statement M

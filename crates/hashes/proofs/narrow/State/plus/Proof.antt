@@ -9,13 +9,13 @@ returns : tie.Need-returns
 returns c =
     let half = c.before.before.before.before in
     let a = half.before.before.before.before.args in
-    summed-of narrow (narrow_words a.self) (narrow_words a.to) half.before.before.before.wrapping-add-u32.ensures
-    half.before.before.wrapping-add-u322.ensures
-    half.before.wrapping-add-u323.ensures half.wrapping-add-u324.ensures c.before.before.before.wrapping-add-u325.ensures
-    c.before.before.wrapping-add-u326.ensures c.before.wrapping-add-u327.ensures c.wrapping-add-u328.ensures
+    summed-of narrow (narrow_words a.self) (narrow_words a.to) half.before.before.before.wrapping_add_u32.ensures
+    half.before.before.wrapping_add_u32-2.ensures
+    half.before.wrapping_add_u32-3.ensures half.wrapping_add_u32-4.ensures c.before.before.before.wrapping_add_u32-5.ensures
+    c.before.before.wrapping_add_u32-6.ensures c.before.wrapping_add_u32-7.ensures c.wrapping_add_u32-8.ensures
 
-pub plus-spec : {M : Type 1} → statement M
-plus-spec =
+pub plus_spec : {M : Type 1} → statement M
+plus_spec =
     tie.close
     (tie.spec (λ c κs. search rules) (λ c κs. search rules) (λ c κs. search rules) (λ c κs. search rules) (λ c κs. search rules)
     (λ c κs. search rules) (λ c κs. search rules) (λ c κs. search rules) returns)

@@ -4,20 +4,20 @@ use Rattle.hashes.proofs.Storing.{Storing, store-none, store-more, store-all}
 use Rattle.hashes.proofs.narrow.State.put.Statement.{statement}
 use Rattle.hashes.proofs.narrow.State.put.Tie as tie
 
-abbrev invariant-loop : tie.invariant-loop
+abbrev invariant-loop : tie.invariant-loop-i
 invariant-loop out₀ n words i₀ out i = Storing narrow words n out i
 
-abbrev decreases-loop : tie.decreases-loop
+abbrev decreases-loop : tie.decreases-loop-i
 decreases-loop out₀ n words i₀ out i = n - i
 
-loop-holds : tie.Need-loop-init invariant-loop decreases-loop
+loop-holds : tie.Need-loop-i-init invariant-loop decreases-loop
 loop-holds c = store-none narrow _ _ c.before.before.args.out.now (search rules) c.fill.ensures
 
-loop-again : tie.Need-loop-preserved invariant-loop decreases-loop
-loop-again c = store-more narrow _ _ _ (search rules) (search rules) c.before.before.before.loop.invariant c.put-big4.ensures
+loop-again : tie.Need-loop-i-preserved invariant-loop decreases-loop
+loop-again c = store-more narrow _ _ _ (search rules) (search rules) c.before.before.before.loop-i.invariant c.put_big4.ensures
 
 returns : tie.Need-returns invariant-loop decreases-loop
-returns c = store-all narrow _ _ _ (search rules) c.before.loop.invariant
+returns c = store-all narrow _ _ _ (search rules) c.before.loop-i.invariant
 
 pub put_spec : {M : Type 1} → statement M
 put_spec =

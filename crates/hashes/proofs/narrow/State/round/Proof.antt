@@ -7,8 +7,8 @@ use Rattle.hashes.proofs.narrow.State.round.Tie as tie
 
 returns : tie.Need-returns
 returns c =
-    round-of narrow _ _ (narrow_words c.before.before.before.before.args.self) c.before.before.before.t1.ensures
-    c.before.before.t2.ensures c.before.wrapping-add-u32.ensures c.wrapping-add-u322.ensures
+    round-of narrow _ _ (narrow_words c.before.before.before.before.args.self) c.before.before.before.t1-t1.ensures
+    c.before.before.t2-t2.ensures c.before.wrapping_add_u32.ensures c.wrapping_add_u32-2.ensures
 
-pub round-spec : {M : Type 1} → statement M
-round-spec = tie.close (tie.spec (λ c κs. search rules) (λ c κs. search rules) (λ c κs. search rules) (λ c κs. search rules) returns)
+pub round_spec : {M : Type 1} → statement M
+round_spec = tie.close (tie.spec (λ c κs. search rules) (λ c κs. search rules) (λ c κs. search rules) (λ c κs. search rules) returns)

@@ -7,5 +7,5 @@ use Rattle.hashes.proofs.narrow.Stream.begin.Tie as tie
 returns : tie.Need-returns
 returns c = none-fed narrow (omega arith) _ _
 
-pub begin-spec : {M : Type 1} → statement M
-begin-spec = tie.close (tie.spec returns)
+pub begin_spec : {M : Type 1} → statement M
+begin_spec = tie.close (tie.spec returns)

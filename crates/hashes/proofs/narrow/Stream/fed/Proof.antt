@@ -4,28 +4,28 @@ use Rattle.hashes.proofs.Feeding.{fed-in-two}
 use Rattle.hashes.proofs.narrow.Stream.fed.Statement.{statement}
 use Rattle.hashes.proofs.narrow.Stream.fed.Tie as tie
 
-returns : tie.Need-returns
-returns c = λ H x h. c.from-border.ensures H x (omega arith) h
+returns : tie.Need-returns-then-rest-eq0
+returns c = λ H x h. c.from_border.ensures H x (omega arith) h
 
-returns-2 : tie.Need-returns-2
+returns-2 : tie.Need-returns-then-piece-room
 returns-2 c = λ H x h. c.kept.ensures H x (omega arith) h
 
-slice-aggregate-filled : tie.Need-slice-aggregate-filled
+slice-aggregate-filled : tie.Need-slice_bounds-filled-end
 slice-aggregate-filled c = simp length-take (omega arith)
 
 filled-requires : tie.Need-filled-requires
 filled-requires c κs = simp length-take (omega arith)
 
-returns-3 : tie.Need-returns-3
+returns-3 : tie.Need-returns
 returns-3 c =
     let full = c.before.before in
     let known = full.before.before.before.before in
     let a = known.before.before.args in
     λ H x h. fed-in-two narrow H x a.piece.now (64 - a.self.length % 64)
-    (c.from-border2.ensures H _ (simp (length-append, length-take) (omega arith)) (full.filled.ensures H x (omega arith) h))
+    (c.from_border-2.ensures H _ (simp (length-append, length-take) (omega arith)) (full.filled.ensures H x (omega arith) h))
 
-pub fed-spec : {M : Type 1} → statement M
-fed-spec =
+pub fed_spec : {M : Type 1} → statement M
+fed_spec =
     tie.close
     (tie.spec (λ c κs. search rules) returns (λ c. search rules) (λ c κs. search rules) returns-2 slice-aggregate-filled
     filled-requires (λ c. search rules) (λ c. search rules) (λ c. search rules) (λ c κs. search rules) returns-3)

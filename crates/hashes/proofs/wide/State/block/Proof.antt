@@ -13,7 +13,7 @@ returns c =
     let a = loaded.before.before.before.args in
     let H = wide_words a.self in
     let M = words_at wide a.bytes.now a.at 16 in
-    all_done wide H M (c.before.late-rounds.ensures H M (early.early-rounds.ensures H M (loaded.load.ensures H))) c.plus.ensures
+    all_done wide H M (c.before.late_rounds-y.ensures H M (early.early_rounds-x.ensures H M (loaded.load.ensures H))) c.plus.ensures
 
 pub block_spec : {M : Type 1} → statement M
 block_spec = tie.close (tie.spec (λ c κs. search rules) (λ c κs. search rules) (λ c κs. search rules) (λ c κs. search rules) returns)

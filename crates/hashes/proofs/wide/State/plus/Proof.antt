@@ -9,13 +9,13 @@ returns : tie.Need-returns
 returns c =
     let half = c.before.before.before.before in
     let a = half.before.before.before.before.args in
-    summed-of wide (wide_words a.self) (wide_words a.to) half.before.before.before.wrapping-add-u64.ensures
-    half.before.before.wrapping-add-u642.ensures
-    half.before.wrapping-add-u643.ensures half.wrapping-add-u644.ensures c.before.before.before.wrapping-add-u645.ensures
-    c.before.before.wrapping-add-u646.ensures c.before.wrapping-add-u647.ensures c.wrapping-add-u648.ensures
+    summed-of wide (wide_words a.self) (wide_words a.to) half.before.before.before.wrapping_add_u64.ensures
+    half.before.before.wrapping_add_u64-2.ensures
+    half.before.wrapping_add_u64-3.ensures half.wrapping_add_u64-4.ensures c.before.before.before.wrapping_add_u64-5.ensures
+    c.before.before.wrapping_add_u64-6.ensures c.before.wrapping_add_u64-7.ensures c.wrapping_add_u64-8.ensures
 
-pub plus-spec : {M : Type 1} → statement M
-plus-spec =
+pub plus_spec : {M : Type 1} → statement M
+plus_spec =
     tie.close
     (tie.spec (λ c κs. search rules) (λ c κs. search rules) (λ c κs. search rules) (λ c κs. search rules) (λ c κs. search rules)
     (λ c κs. search rules) (λ c κs. search rules) (λ c κs. search rules) returns)

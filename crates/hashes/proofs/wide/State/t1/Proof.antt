@@ -8,13 +8,13 @@ use Rattle.hashes.proofs.wide.State.t1.Tie as tie
 returns : tie.Need-returns
 returns c =
     let second = c.before.before.before.before in
-    T₁-of wide _ _ (wide_words second.before.before.args.self) second.before.wrapping-add-u64.ensures
-    second.wrapping-add-u642.ensures
-    c.before.before.before.choice.ensures c.before.before.wrapping-add-u643.ensures c.before.big-sigma-1.ensures
-    c.wrapping-add-u644.ensures
+    T₁-of wide _ _ (wide_words second.before.before.args.self) second.before.wrapping_add_u64.ensures
+    second.wrapping_add_u64-x.ensures
+    c.before.before.before.choice.ensures c.before.before.wrapping_add_u64-y.ensures c.before.big_sigma_1.ensures
+    c.wrapping_add_u64-2.ensures
 
-pub t1-spec : {M : Type 1} → statement M
-t1-spec =
+pub t1_spec : {M : Type 1} → statement M
+t1_spec =
     tie.close
     (tie.spec (λ c κs. search rules) (λ c κs. search rules) (λ c κs. search rules) (λ c κs. search rules) (λ c κs. search rules)
     (λ c κs. search rules) returns)
