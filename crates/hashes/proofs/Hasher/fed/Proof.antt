@@ -25,7 +25,7 @@ returns-3 : tie.Need-returns-in_default
 returns-3 c =
     λ i x f. record {
       begun = f.begun;
-      by_2 = λ e. absurd (c.before.in_default-1.rest.1 (f.begun ∙ e));
+      by_2 = λ e. absurd (c.in_default.in_default-own.rest.1 (f.begun ∙ e));
       by-3 = λ e. absurd (omega arith);
       by_4 = λ e. absurd (omega arith);
     }

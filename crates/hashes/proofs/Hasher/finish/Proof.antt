@@ -8,30 +8,28 @@ use Rattle.hashes.proofs.Hasher.finish.Tie as tie
 returns : tie.Need-returns-in-2
 returns c =
     λ i x l f.
-    let e = sym f.begun ∙ c.before.before.in_default.keys1 in
+    let e = sym f.begun ∙ c.in-2.is in
     answer-by i (has-2 e) x (sha2-of SHA2-256 x 8 (omega arith) (omega arith) refl (c.finish.ensures initial256 x l (f.by_2 e))) refl
 
 returns-2 : tie.Need-returns-in-3
 returns-2 c =
     λ i x l f.
-    let e = sym f.begun ∙ c.before.before.in_default.keys2 in
+    let e = sym f.begun ∙ c.in-3.is in
     answer-by i (has-3 e) x (sha2-of SHA2-384 x 6 (omega arith) (omega arith) refl (c.finish-in-3.ensures initial384 x l (f.by-3 e))) refl
 
 returns-3 : tie.Need-returns-in-4
 returns-3 c =
     λ i x l f.
-    let e = sym f.begun ∙ c.before.before.in_default.keys3 in
+    let e = sym f.begun ∙ c.in-4.is in
     answer-by i (has-4 e) x (sha2-of SHA2-512 x 8 (omega arith) (omega arith) refl (c.finish-in-4.ensures initial512 x l (f.by_4 e))) refl
 
 returns-4 : tie.Need-returns-in_default
 returns-4 c =
     λ i x l f.
-    let none = c.before.before in
-    let a = none.before.before.before.args in
     answer-by i
-    (has-none (λ e. none.in_default.rest.0.0.1 (f.begun ∙ e)) (λ e. none.in_default.rest.0.1 (f.begun ∙ e))
-    (λ e. none.in_default.rest.1 (f.begun ∙ e))) x
-    (c.fill.ensures ∙ zeros-in-sixty-four a.out.now (search rules)) refl
+    (has-none (λ e. c.in_default.in_default-own.rest.0.0.1 (f.begun ∙ e)) (λ e. c.in_default.in_default-own.rest.0.1 (f.begun ∙ e))
+    (λ e. c.in_default.in_default-own.rest.1 (f.begun ∙ e))) x
+    (c.fill.ensures ∙ zeros-in-sixty-four c.args.out.now (search rules)) refl
 
 pub finish_spec : {M : Type 1} → statement M
 finish_spec =

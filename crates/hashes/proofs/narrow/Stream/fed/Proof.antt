@@ -18,11 +18,9 @@ filled-requires c κs = simp length-take (omega arith)
 
 returns-3 : tie.Need-returns
 returns-3 c =
-    let full = c.before.before in
-    let known = full.before.before.before.before in
-    let a = known.before.before.args in
+    let a = c.args in
     λ H x h. fed-in-two narrow H x a.piece.now (64 - a.self.length % 64)
-    (c.from_border-2.ensures H _ (simp (length-append, length-take) (omega arith)) (full.filled.ensures H x (omega arith) h))
+    (c.from_border-2.ensures H _ (simp (length-append, length-take) (omega arith)) (c.filled.ensures H x (omega arith) h))
 
 pub fed_spec : {M : Type 1} → statement M
 fed_spec =

@@ -6,9 +6,8 @@ use Rattle.hashes.proofs.narrow.Stream.filled.Tie as tie
 
 returns : tie.Need-returns
 returns c =
-    let lent = c.before.before.before.before in
-    λ H x e h. fed-full narrow (omega arith) H h _ e lent.before.keep.ensures c.wrapping_add_u64.ensures (search rules)
-    c.before.one-words.ensures
+    λ H x e h. fed-full narrow (omega arith) H h _ e c.keep.ensures c.wrapping_add_u64.ensures (search rules)
+    c.one-words.ensures
 
 pub filled_spec : {M : Type 1} → statement M
 filled_spec = tie.close (tie.spec (λ c κs. search rules) (λ c κs. search rules) (λ c κs. search rules) returns)

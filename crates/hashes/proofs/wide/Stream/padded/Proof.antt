@@ -6,22 +6,16 @@ use Rattle.hashes.proofs.wide.Stream.padded.Tie as tie
 
 returns : tie.Need-returns-then-rest-lt112
 returns c =
-    let closed = c.before.before.before.before in
-    let marked = closed.before.before in
-    let r : ℕ = marked.before.before.before.args.t1.length % 128 in
+    let r : ℕ = c.args.self.length % 128 in
     λ H x l h. padded-in-one wide (omega arith) H h l r 112 (112 - (r + 1)) (omega arith) (omega arith) (omega arith) (omega arith)
-    (omega arith) marked.mark.ensures closed.put_length.ensures c.one.ensures
+    (omega arith) c.mark.ensures c.put_length.ensures c.one.ensures
 
 returns-2 : tie.Need-returns
 returns-2 c =
-    let closed = c.before.before.before in
-    let cleared = closed.before.before in
-    let worked = cleared.before.before in
-    let marked = worked.before.before.before.before in
-    let r : ℕ = marked.before.before.before.args.t1.length % 128 in
+    let r : ℕ = c.args.self.length % 128 in
     λ H x l h. padded-in-two wide (omega arith) H h l r 112 (128 - (r + 1)) 111 (omega arith) (omega arith) (omega arith) (omega arith)
-    (omega arith) (omega arith) (omega arith) marked.mark-2.ensures worked.one-words.ensures cleared.mark-3.ensures
-    closed.put_length-2.ensures c.one-2.ensures
+    (omega arith) (omega arith) (omega arith) c.mark-2.ensures c.one-words.ensures c.mark-3.ensures
+    c.put_length-2.ensures c.one-2.ensures
 
 pub padded_spec : {M : Type 1} → statement M
 padded_spec =
