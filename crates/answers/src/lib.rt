@@ -1,5 +1,6 @@
 // The numbered answers, the answer record, and the rules on arguments that several calls share.
 #![tactic(auto)]
+
 pub mod codes;
 pub mod rules;
 

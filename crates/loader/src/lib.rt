@@ -1,5 +1,6 @@
 // The stacked loader: proves the blocks of an image one by one, and runs the commands of each as soon as it is proved.
 #![tactic(auto)]
+
 ghost use Rattle.std.specs.Prelude.{◌≡◌, length};
 ghost use Rattle.answers.specs.Rules.{first_broken};
 ghost use Rattle.machine.specs.Machine.{answer_of};

@@ -1,5 +1,6 @@
 // The command machine: what the proved bytes of a command file do to a unit.
 #![tactic(auto)]
+
 pub mod bare;
 mod commands;
 mod memory;

@@ -1,6 +1,7 @@
 // Cuts short command files in every way into two pieces and into three, and into single bytes.
 // A line a file: the answer of the whole run, how many cuts were tried, and how many left that answer and memory.
 #![tactic(auto)]
+
 mod cuts;
 mod files;
 mod unit;

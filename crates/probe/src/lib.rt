@@ -1,5 +1,6 @@
 // The hashes for programs in C and Rust that test and time them.
 #![tactic(auto)]
+
 ghost use Rattle.std.specs.Prelude.{◌≡◌};
 ghost use Rattle.hashes.specs.Code.{in_sixty_four};
 ghost use Rattle.hashes.specs.Digests.{digest as digest_of, digest_length};

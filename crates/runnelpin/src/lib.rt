@@ -1,5 +1,6 @@
 // The calls that a boot stub in C makes: every number is 64 bits wide, a slice is a pointer and a length.
 #![tactic(auto)]
+
 ghost use Rattle.std.specs.Prelude.{[], ◌∷◌, ◌≡◌};
 ghost use Rattle.octets.specs.Parts.{part};
 ghost use Rattle.chain.specs.Open.{opened, signature_field};

@@ -1,6 +1,7 @@
 // Writes the digests of known messages, one to a line: hash, message, digest in hexadecimal.
 // A message whose name ends in `-by-N` is fed in pieces of N bytes.
 #![tactic(auto)]
+
 ghost use Rattle.std.specs.Prelude.{◌≤◌};
 
 fn main() {

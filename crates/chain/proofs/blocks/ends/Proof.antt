@@ -6,11 +6,11 @@ use borrow.Author.Tests.{eq-eqb, ne_eqb}
 use Rattle.chain.proofs.blocks.ends.Statement.{statement}
 use Rattle.chain.proofs.blocks.ends.Tie as tie
 
-returns : tie.Need-returns
-returns c = simp (ne_eqb _ _ (λ e. c.if1.true (add-one _ ∙ e)))
+returns : tie.Need-returns-then-k-count
+returns c = simp (ne_eqb _ _ (λ e. c.if-k-count.true (add-one _ ∙ e)))
 
-returns-2 : tie.Need-returns-2
-returns-2 c = ap not c.zero.ensures ∙ simp (eq-eqb _ _ (sym (add-one _) ∙ c.before.if1.false))
+returns-2 : tie.Need-returns
+returns-2 c = ap not c.zero.ensures ∙ simp (eq-eqb _ _ (sym (add-one _) ∙ c.before.if-k-count.false))
 
-pub ends-spec : {M : Type 1} → statement M
-ends-spec = tie.close (tie.spec (λ c. search rules) returns (λ c κs. search rules) returns-2)
+pub ends_spec : {M : Type 1} → statement M
+ends_spec = tie.close (tie.spec (λ c. search rules) returns (λ c κs. search rules) returns-2)

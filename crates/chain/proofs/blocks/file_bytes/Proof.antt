@@ -7,22 +7,22 @@ use Rattle.chain.proofs.PassLaws.{drop-is}
 use Rattle.chain.proofs.blocks.file_bytes.Statement.{statement}
 use Rattle.chain.proofs.blocks.file_bytes.Tie as tie
 
-module _ (c : tie.After-padding-of) where
+module _ (c : tie.After-padding_of) where
   abbrev start : tie.Start
   start = c.before.before.before
 
-  within : start.args.s.hashsum_length + c.padding-of.result ≤ length start.args.block.now
-  within = omega (arith, c.padding-of.ensures, start.pre)
+  within : start.args.s.hashsum_length + c.padding_of.result ≤ length start.args.block.now
+  within = omega (arith, c.padding_of.ensures, start.requires)
 
 returns : tie.Need-returns
 returns c =
     let p = c.before in
     let a = (start p).args in
-    drop-is a.block.now (a.s.hashsum_length + p.padding-of.result) (within p)
-    ∙ ap (λ (i : ℕ). drop (a.s.hashsum_length + i) a.block.now) p.padding-of.ensures
+    drop-is a.block.now (a.s.hashsum_length + p.padding_of.result) (within p)
+    ∙ ap (λ (i : ℕ). drop (a.s.hashsum_length + i) a.block.now) p.padding_of.ensures
 
-pub file-bytes-spec : {M : Type 1} → statement M
-file-bytes-spec =
+pub file_bytes_spec : {M : Type 1} → statement M
+file_bytes_spec =
     tie.close
     (tie.spec
     (λ c. search rules)

@@ -2,11 +2,11 @@
 use Rattle.chain.proofs.blocks.first_broken.Statement.{statement}
 use Rattle.chain.proofs.blocks.first_broken.Tie as tie
 
-pub first-broken-spec : {M : Type 1} → statement M
-first-broken-spec =
+pub first_broken_spec : {M : Type 1} → statement M
+first_broken_spec =
     tie.close
     (tie.spec
-    (λ c. simp c.if1.true)
-    (λ c. simp (c.before.if1.false, c.if2.true))
-    (λ c. simp (c.before.before.if1.false, c.before.if2.false, c.if3.true))
-    (λ c. simp (c.before.before.if1.false, c.before.if2.false, c.if3.false)))
+    (λ c. simp c.if-not-hash.true)
+    (λ c. simp (c.before.if-not-hash.false, c.if-not-padding.true))
+    (λ c. simp (c.before.before.if-not-hash.false, c.before.if-not-padding.false, c.if-not-last.true))
+    (λ c. simp (c.before.before.if-not-hash.false, c.before.if-not-padding.false, c.if-not-last.false)))

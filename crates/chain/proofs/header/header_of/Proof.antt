@@ -11,15 +11,15 @@ returns c =
     let c₁ = c₂.before in
     λ i. record {
       magic = c₁.little4.ensures i;
-      stream = c₂.stream-of.ensures i;
-      signature = c₃.little42.ensures i;
+      stream = c₂.stream_of.ensures i;
+      signature = c₃.little4-2.ensures i;
       header_size = c₄.little2.ensures i;
-      scheme = c.little22.ensures i;
+      scheme = c.little2-2.ensures i;
       root = drop 36 c₁.before.before.args.approved.now;
     }
 
-pub header-of-spec : {M : Type 1} → statement M
-header-of-spec =
+pub header_of_spec : {M : Type 1} → statement M
+header_of_spec =
     tie.close
     (tie.spec
     (λ c κs. search rules)

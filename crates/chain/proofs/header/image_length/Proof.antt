@@ -5,15 +5,15 @@ use Rattle.chain.proofs.CodeLaws.{blocks-short}
 use Rattle.chain.proofs.header.image_length.Statement.{statement}
 use Rattle.chain.proofs.header.image_length.Tie as tie
 
-module _ (c : tie.After-struct-known4) where
-  abbrev copied : tie.After-s
+module _ (c : tie.After-struct_known-4-1) where
+  abbrev copied : tie.After-s-1
   copied = c.before.before.before.before
 
   product : let s = copied.before.args.h.stream in s.count * s.block_size ≤ 2 ^ 32 * 1048576
-  product = let b = copied.before in blocks-short b.args.h.stream.count b.args.h.stream.block_size (omega arith) b.pre
+  product = let b = copied.before in blocks-short b.args.h.stream.count b.args.h.stream.block_size (omega arith) b.requires
 
-pub image-length-spec : {M : Type 1} → statement M
-image-length-spec =
+pub image_length_spec : {M : Type 1} → statement M
+image_length_spec =
     tie.close
     (tie.spec
     (λ c. search rules)

@@ -23,29 +23,29 @@ image s = s.args.image.now
 abbrev approved : tie.Start → List ℕ
 approved s = s.args.approved.now
 
-abbrev rules : tie.Start → List Rule
-rules s = image_rules (image s) (approved s) s.args.signature
+abbrev own_rules : tie.Start → List Rule
+own_rules s = image_rules (image s) (approved s) s.args.signature
 
 abbrev exactly : tie.Start → List Rule
 exactly s = rule 12 (not (eqb (length (image s)) (image_length (header_of (approved s))))) ∷ []
 
-returns : tie.Need-returns
+returns : tie.Need-returns-then-approved-lt36
 returns c =
     let t = c.before in
     let s = t.before.before.before in
-    judged-refused (rules s) (approved s) 4 (simp (lt-ltb _ _ t.if1.true)) (λ z. omega arith) c.refusal.ensures
+    judged-refused (own_rules s) (approved s) 4 (simp (lt-ltb _ _ t.if-approved-lt36.true)) (λ z. omega arith) c.refusal.ensures
 
-returns-2 : tie.Need-returns-2
+returns-2 : tie.Need-returns-then-not-starts_with
 returns-2 c =
     let t = c.before in
     let b = t.before in
     let s = b.before.before.before.before in
-    judged-refused (rules s) (approved s) 4
-    (simp (le-ltb _ _ b.before.if1.false, ap not (sym b.starts_with.ensures) ∙ t.if2.true))
-    (λ z. omega arith) c.refusal2.ensures
+    judged-refused (own_rules s) (approved s) 4
+    (simp (le-ltb _ _ b.before.if-approved-lt36.false, ap not (sym b.starts_with.ensures) ∙ t.if-not-starts_with.true))
+    (λ z. omega arith) c.refusal-then-not-starts_with.ensures
 
-module _ (c : tie.After-field-code) where
-  abbrev started : tie.After-starts-with
+module _ (c : tie.After-field_code-code) where
+  abbrev started : tie.After-starts_with
   started = c.before.before.before.before
 
   abbrev start : tie.Start
@@ -54,60 +54,60 @@ module _ (c : tie.After-field-code) where
   abbrev fields : List Rule
   fields = field_rules (header_of (approved start)) (length (approved start)) start.args.signature
 
-  past-start : first_broken (rules start) ≡ first_broken (fields ++ exactly start)
+  past-start : first_broken (own_rules start) ≡ first_broken (fields ++ exactly start)
   past-start =
-      simp (le-ltb _ _ started.before.if1.left, ap not (sym started.starts_with.ensures) ∙ c.before.before.before.if2.false)
+      simp (le-ltb _ _ started.before.if-approved-lt36.false, ap not (sym started.starts_with.ensures) ∙ c.before.before.before.if-not-starts_with.false)
 
-  judged : c.field-code.result ≡ first_broken fields
+  judged : c.field_code-code.result ≡ first_broken fields
   judged =
-      c.field-code.ensures
+      c.field_code-code.ensures
       ∙ ap (λ (d : Header). first_broken (field_rules d (length (approved start)) start.args.signature))
-      c.before.before.header_of.ensures
+      c.before.before.header_of-h.ensures
 
-  past-fields : c.field-code.result ≡ 0 → first_broken (rules start) ≡ first_broken (exactly start)
-  past-fields e = past-start ∙ goes_on fields (exactly start) c.field-code.result tt judged e
+  past-fields : c.field_code-code.result ≡ 0 → first_broken (own_rules start) ≡ first_broken (exactly start)
+  past-fields e = past-start ∙ goes_on fields (exactly start) c.field_code-code.result tt judged e
 
-returns-3 : tie.Need-returns-3
+returns-3 : tie.Need-returns-then-code-ne-DONE
 returns-3 c =
     let t = c.before in
     let b = t.before in
     let s = start b in
-    judged-refused (rules s) (approved s) b.field-code.result
-    (refuses (fields b) (exactly s) b.field-code.result tt (judged b) t.if3.true ∙ sym (past-start b)) t.if3.true
-    c.refusal3.ensures
+    judged-refused (own_rules s) (approved s) b.field_code-code.result
+    (refuses (fields b) (exactly s) b.field_code-code.result tt (judged b) t.if-code-ne-DONE.true ∙ sym (past-start b)) t.if-code-ne-DONE.true
+    c.refusal-then-code-ne-DONE.ensures
 
-image-length-requires : tie.Need-image-length-requires
+image-length-requires : tie.Need-image_length-requires
 image-length-requires c κs =
     let b = c.before in
     let s = start b in
-    (sound (header_with b.before.before.header_of.result []) (length (approved s)) s.args.signature
-    (sym b.field-code.ensures ∙ c.if3.false)).below
+    (sound (header_with b.before.before.header_of-h.result []) (length (approved s)) s.args.signature
+    (sym b.field_code-code.ensures ∙ c.if-code-ne-DONE.false)).below
 
 -- the length that an image has, by its header
-exact : (c : tie.After-image-length) → c.image-length.result ≡ image_length (header_of (approved (start c.before.before)))
-exact c = c.image-length.ensures ∙ ap image_length c.before.before.before.before.header_of.ensures
+exact : (c : tie.After-image_length) → c.image_length.result ≡ image_length (header_of (approved (start c.before.before)))
+exact c = c.image_length.ensures ∙ ap image_length c.before.before.before.before.header_of-h.ensures
 
-returns-4 : tie.Need-returns-4
+returns-4 : tie.Need-returns-then-image-image_length
 returns-4 c =
     let t = c.before in
     let n = t.before in
     let b = n.before.before in
     let s = start b in
-    judged-refused (rules s) (approved s) 12
-    (sym (past-fields b n.before.if3.false ∙ simp (ne_eqb _ _ (λ e. t.if4.true (e ∙ sym (exact n))))))
-    (λ z. omega arith) c.refusal4.ensures
+    judged-refused (own_rules s) (approved s) 12
+    (sym (past-fields b n.before.if-code-ne-DONE.false ∙ simp (ne_eqb _ _ (λ e. t.if-image-image_length.true (e ∙ sym (exact n))))))
+    (λ z. omega arith) c.refusal-then-image-image_length.ensures
 
-returns-5 : tie.Need-returns-5
+returns-5 : tie.Need-returns
 returns-5 c =
     let n = c.before in
     let b = n.before.before in
     let s = start b in
-    judged-passed (rules s) (approved s) b.before.before.header_of.result.stream
-    (past-fields b n.before.if3.false ∙ simp (eq-eqb _ _ (c.if4.false ∙ exact n)))
-    (ap (λ (d : Header). d.stream) b.before.before.header_of.ensures)
+    judged-passed (own_rules s) (approved s) b.before.before.header_of-h.result.stream
+    (past-fields b n.before.if-code-ne-DONE.false ∙ simp (eq-eqb _ _ (c.if-image-image_length.false ∙ exact n)))
+    (ap (λ (d : Header). d.stream) b.before.before.header_of-h.ensures)
 
-pub judged-spec : {M : Type 1} → statement M
-judged-spec =
+pub judged_spec : {M : Type 1} → statement M
+judged_spec =
     tie.close
     (tie.spec
     (λ c κs. search rules)

@@ -11,7 +11,7 @@ use Rattle.chain.proofs.JudgingLaws.{judged-refused, judged-behind}
 use Rattle.chain.proofs.header.stream_judged.Statement.{statement}
 use Rattle.chain.proofs.header.stream_judged.Tie as tie
 
-module _ (c : tie.After-signature-code) where
+module _ (c : tie.After-signature_code-first) where
   abbrev start : tie.Start
   start = c.before.before.before
 
@@ -27,42 +27,42 @@ module _ (c : tie.After-signature-code) where
   abbrev last : List Rule
   last = image_rules image approved start.args.signature
 
-  past-signature : c.signature-code.result ≡ 0 → first_broken all ≡ first_broken (size_rules (length image) ++ last)
+  past-signature : c.signature_code-first.result ≡ 0 → first_broken all ≡ first_broken (size_rules (length image) ++ last)
   past-signature =
-      goes_on (signature_rules start.args.signature) (size_rules (length image) ++ last) c.signature-code.result tt
-      c.signature-code.ensures
+      goes_on (signature_rules start.args.signature) (size_rules (length image) ++ last) c.signature_code-first.result tt
+      c.signature_code-first.ensures
 
-returns : tie.Need-returns
+returns : tie.Need-returns-then-first-ne-DONE
 returns c =
     let t = c.before in
     let b = t.before in
-    judged-refused (all b) (approved b) b.signature-code.result
-    (refuses (signature_rules (start b).args.signature) (size_rules (length (image b)) ++ last b) b.signature-code.result tt
-    b.signature-code.ensures t.if1.true)
-    t.if1.true c.refusal.ensures
+    judged-refused (all b) (approved b) b.signature_code-first.result
+    (refuses (signature_rules (start b).args.signature) (size_rules (length (image b)) ++ last b) b.signature_code-first.result tt
+    b.signature_code-first.ensures t.if-first-ne-DONE.true)
+    t.if-first-ne-DONE.true c.refusal.ensures
 
-returns-2 : tie.Need-returns-2
+returns-2 : tie.Need-returns-then-second-ne-DONE
 returns-2 c =
     let t = c.before in
     let z = t.before in
     let b = z.before.before in
-    judged-refused (all b) (approved b) z.size-code.result
-    (refuses (size_rules (length (image b))) (last b) z.size-code.result tt z.size-code.ensures t.if2.true
-    ∙ sym (past-signature b z.before.if1.false))
-    t.if2.true c.refusal2.ensures
+    judged-refused (all b) (approved b) z.size_code-second.result
+    (refuses (size_rules (length (image b))) (last b) z.size_code-second.result tt z.size_code-second.ensures t.if-second-ne-DONE.true
+    ∙ sym (past-signature b z.before.if-first-ne-DONE.false))
+    t.if-second-ne-DONE.true c.refusal-then-second-ne-DONE.ensures
 
-returns-3 : tie.Need-returns-3
+returns-3 : tie.Need-returns
 returns-3 c =
     let e = c.before in
     let z = e.before in
     let b = z.before.before in
     judged-behind (all b) (approved b) (last b)
-    (past-signature b z.before.if1.false
-    ∙ goes_on (size_rules (length (image b))) (last b) z.size-code.result tt z.size-code.ensures e.if2.false)
+    (past-signature b z.before.if-first-ne-DONE.false
+    ∙ goes_on (size_rules (length (image b))) (last b) z.size_code-second.result tt z.size_code-second.ensures e.if-second-ne-DONE.false)
     c.judged.ensures
 
-pub stream-judged-spec : {M : Type 1} → statement M
-stream-judged-spec =
+pub stream_judged_spec : {M : Type 1} → statement M
+stream_judged_spec =
     tie.close
     (tie.spec
     (λ c κs. search rules)

@@ -10,14 +10,14 @@ returns c =
     let c₁ = c₂.before in
     λ i. record {
       count = c₁.little4.ensures i;
-      block_size = c₂.little42.ensures i;
+      block_size = c₂.little4-2.ensures i;
       hashsum_length = c₃.little2.ensures i;
-      ids = c.ids-of.ensures i;
-      padding = c₄.little43.ensures i;
+      ids = c.ids_of.ensures i;
+      padding = c₄.little4-3.ensures i;
     }
 
-pub stream-of-spec : {M : Type 1} → statement M
-stream-of-spec =
+pub stream_of_spec : {M : Type 1} → statement M
+stream_of_spec =
     tie.close
     (tie.spec
     (λ c κs. search rules)

@@ -4,32 +4,32 @@ use Rattle.chain.proofs.ProvingLaws.{opened-unwritten, opened-given}
 use Rattle.chain.proofs.open.open.Statement.{statement}
 use Rattle.chain.proofs.open.open.Tie as tie
 
-abbrev begun : tie.After-slice-known2 → tie.Start
+abbrev begun : tie.After-slice_known-2-1 → tie.Start
 begun c = c.before.before.before.before
 
-returns : tie.Need-returns
+returns : tie.Need-returns-then-answer-ne-RECORD_LENGTH
 returns c =
     let a = (begun c.before).args in
-    opened-unwritten a.image.now a.header.now a.signature-length a.output.now a.answer.now c.if1.true
+    opened-unwritten a.image.now a.header.now a.signature_length a.output.now a.answer.now c.if-answer-ne-RECORD_LENGTH.true
 
-module _ (c : tie.After-open-answer) where
-  abbrev checked : tie.Else1
+module _ (c : tie.After-open_answer-a) where
+  abbrev checked : tie.Else-answer-ne-RECORD_LENGTH
   checked = c.before.before
 
   abbrev start : tie.Start
   start = begun checked.before
 
-returns-2 : tie.Need-returns-2
+returns-2 : tie.Need-returns
 returns-2 c =
     let w = c.before.before in
     let o = w.before.before.before.before in
     let a = (start o).args in
-    opened-given a.image.now a.header.now a.signature-length a.output.now a.answer.now (checked o).if1.false
-    o.open-answer.ensures
+    opened-given a.image.now a.header.now a.signature_length a.output.now a.answer.now (checked o).if-answer-ne-RECORD_LENGTH.false
+    o.open_answer-a.ensures
     ∙ (λ i. record {
-      code = sym w.write-answer.ensures.1 i;
-      answer = sym w.write-answer.ensures.0 i;
-      lent = o.open-answer.new.1.1.1.0;
+      code = sym w.write_answer.ensures.1 i;
+      answer = sym w.write_answer.ensures.0 i;
+      lent = o.open_answer-a.new.output;
     })
 
 pub open_spec : {M : Type 1} → statement M

@@ -19,7 +19,7 @@ use Rattle.chain.proofs.ProvingLaws.{sized, image-fits, answered-refused, answer
 use Rattle.chain.proofs.open.open_answer.Statement.{statement}
 use Rattle.chain.proofs.open.open_answer.Tie as tie
 
-module _ (c : tie.After-stream-judged) where
+module _ (c : tie.After-stream_judged-j) where
   abbrev start : tie.Start
   start = c.before.before.before.before
 
@@ -35,35 +35,35 @@ module _ (c : tie.After-stream-judged) where
   abbrev before : List ℕ
   before = start.args.output.now
 
-  abbrev rules : List Rule
-  rules = stream_rules image approved signature
+  abbrev own_rules : List Rule
+  own_rules = stream_rules image approved signature
 
   abbrev exactly : List Rule
   exactly = rule 29 (not (eqb (length before) (file_length (header_of approved).stream))) ∷ []
 
   abbrev numbers : Stream
-  numbers = c.stream-judged.result.stream
+  numbers = c.stream_judged-j.result.stream
 
-returns : tie.Need-returns
+returns : tie.Need-returns-then-j-ne-DONE
 returns c =
     let t = c.before in
     let j = t.before.before in
-    answered-refused (image j) (approved j) (signature j) (before j) j.stream-judged.result.code
-    (refuses (rules j) (exactly j) j.stream-judged.result.code tt j.stream-judged.ensures.code t.if1.true) t.if1.true
+    answered-refused (image j) (approved j) (signature j) (before j) j.stream_judged-j.result.code
+    (refuses (own_rules j) (exactly j) j.stream_judged-j.result.code tt j.stream_judged-j.ensures.code t.if-j-ne-DONE.true) t.if-j-ne-DONE.true
     c.refused.ensures
 
-module _ (c : tie.Else1) where
-  abbrev judged : tie.After-stream-judged
+module _ (c : tie.Else-j-ne-DONE) where
+  abbrev judged : tie.After-stream_judged-j
   judged = c.before.before
 
-  passes : first_broken (rules judged) ≡ 0
-  passes = sym judged.stream-judged.ensures.code ∙ c.if1.false
+  passes : first_broken (own_rules judged) ≡ 0
+  passes = sym judged.stream_judged-j.ensures.code ∙ c.if-j-ne-DONE.false
 
   past : first_broken (open_rules (image judged) (approved judged) (signature judged) (length (before judged))) ≡ first_broken (exactly judged)
-  past = goes_on (rules judged) (exactly judged) _ tt judged.stream-judged.ensures.code c.if1.false
+  past = goes_on (own_rules judged) (exactly judged) _ tt judged.stream_judged-j.ensures.code c.if-j-ne-DONE.false
 
   stream-is : stream_of (numbers judged) ≡ (header_of (approved judged)).stream
-  stream-is = judged-stream (rules judged) (approved judged) judged.stream-judged.ensures c.if1.false
+  stream-is = judged-stream (own_rules judged) (approved judged) judged.stream_judged-j.ensures c.if-j-ne-DONE.false
 
   passed : Numbered (image judged) (approved judged) (length (approved judged) + signature judged) (numbers judged)
   passed =
@@ -73,36 +73,36 @@ module _ (c : tie.Else1) where
       passes).1
       stream-is
 
-module _ (c : tie.After-file-length) where
-  abbrev through : tie.Else1
+module _ (c : tie.After-file_length) where
+  abbrev through : tie.Else-j-ne-DONE
   through = c.before.before
 
-  exact : c.file-length.result ≡ file_length (header_of (approved (judged through))).stream
-  exact = c.file-length.ensures ∙ ap file_length (stream-is through)
+  exact : c.file_length.result ≡ file_length (header_of (approved (judged through))).stream
+  exact = c.file_length.ensures ∙ ap file_length (stream-is through)
 
-returns-2 : tie.Need-returns-2
+returns-2 : tie.Need-returns-then-output-file_length
 returns-2 c =
     let t = c.before in
     let f = t.before in
     let e = through f in
     let j = judged e in
     answered-refused (image j) (approved j) (signature j) (before j) 29
-    (sym (past e ∙ simp (ne_eqb _ _ (λ z. t.if2.true (z ∙ sym (exact f)))))) (λ z. omega arith) c.refused2.ensures
+    (sym (past e ∙ simp (ne_eqb _ _ (λ z. t.if-output-file_length.true (z ∙ sym (exact f)))))) (λ z. omega arith) c.refused-then-output-file_length.ensures
 
-returns-3 : tie.Need-returns-3
+returns-3 : tie.Need-returns
 returns-3 c =
     let w = c.before.before.before in
     let p = w.before.before in
     let f = p.before.before in
     let e = through f in
     let j = judged e in
-    answered-proved (image j) (approved j) (signature j) (before j) (passed e) p.proved.ensures
-    (past e ∙ simp (eq-eqb _ _ (p.before.if2.false ∙ exact f))) w.copy-file.result _ w.copy-file.ensures.0
-    w.copy-file.ensures.1
+    answered-proved (image j) (approved j) (signature j) (before j) (passed e) p.proved-p.ensures
+    (past e ∙ simp (eq-eqb _ _ (p.before.if-output-file_length.false ∙ exact f))) w.copy_file-stored.result _ w.copy_file-stored.ensures.0
+    w.copy_file-stored.ensures.1
     c.told.ensures
 
-pub open-answer-spec : {M : Type 1} → statement M
-open-answer-spec =
+pub open_answer_spec : {M : Type 1} → statement M
+open_answer_spec =
     tie.close
     (tie.spec
     (λ c κs. search rules)
@@ -114,8 +114,8 @@ open-answer-spec =
     (λ c. let e = through c.before in omega (arith, image-fits (passed e), (start (judged e)).good))
     (λ c κs. passed (through c.before))
     (λ c κs. let p = c.before in let f = p.before.before in let j = judged (through f) in
-    copyable (image j) (approved j) (signature j) (before j) (passed (through f)) p.proved.ensures
-    (p.before.if2.false ∙ f.file-length.ensures))
+    copyable (image j) (approved j) (signature j) (before j) (passed (through f)) p.proved-p.ensures
+    (p.before.if-output-file_length.false ∙ f.file_length.ensures))
     (λ c κs. search rules)
     (λ c. search rules)
     returns-3)

@@ -6,5 +6,5 @@ use Rattle.chain.proofs.pack.block_count.Tie as tie
 returns : tie.Need-returns
 returns c = refl
 
-pub block-count-spec : {M : Type 1} → statement M
-block-count-spec = tie.close (tie.spec (λ c. search rules) (λ c. search rules) (λ c. search rules) returns)
+pub block_count_spec : {M : Type 1} → statement M
+block_count_spec = tie.close (tie.spec (λ c. search rules) (λ c. search rules) (λ c. search rules) returns)

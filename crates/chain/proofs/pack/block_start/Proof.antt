@@ -6,14 +6,14 @@ use Rattle.chain.proofs.CodeLaws.{blocks-short}
 use Rattle.chain.proofs.pack.block_start.Statement.{statement}
 use Rattle.chain.proofs.pack.block_start.Tie as tie
 
-product : (c : tie.After-struct-known3) → let s = c.before.before.before.before in
+product : (c : tie.After-struct_known-3-1) → let s = c.before.before.before.before in
     s.args.k * s.args.h.stream.block_size ≤ 2 ^ 32 * 1048576
 product c =
     let s = c.before.before.before.before in
     blocks-short s.args.k s.args.h.stream.block_size (omega (arith, s.requires.0)) s.requires.1
 
-pub block-start-spec : {M : Type 1} → statement M
-block-start-spec =
+pub block_start_spec : {M : Type 1} → statement M
+block_start_spec =
     tie.close
     (tie.spec
     (λ c. search rules)

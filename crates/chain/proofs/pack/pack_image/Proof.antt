@@ -8,7 +8,7 @@ use Rattle.chain.proofs.PackingLaws.{Plan, planned, ids-narrow, linkable, image-
 use Rattle.chain.proofs.pack.pack_image.Statement.{statement}
 use Rattle.chain.proofs.pack.pack_image.Tie as tie
 
-module _ (c : tie.After-pack-blocks) where
+module _ (c : tie.After-pack_blocks) where
   abbrev start : tie.Start
   start = c.before.before.before.before
 
@@ -16,35 +16,35 @@ module _ (c : tie.After-pack-blocks) where
   n = length start.args.output.now
 
   plan : Plan start.args.file.now start.args.h n
-  plan = planned start.args.file.now start.args.h n start.pre
+  plan = planned start.args.file.now start.args.h n start.requires
 
-  kept : length c.pack-blocks.new.1.1.0 ≡ n
-  kept = c.pack-blocks.auto.1.1.0
+  kept : length c.pack_blocks.new.output ≡ n
+  kept = c.pack_blocks.auto.1.1.0
 
-abbrev packed : tie.After-fill-arg → tie.After-pack-blocks
+abbrev packed : tie.After-fill-arg-1 → tie.After-pack_blocks
 packed c = let k = c.before in k.before.before.before.before
 
 module _ (c : tie.After-fill) where
-  abbrev blocks : tie.After-pack-blocks
+  abbrev blocks : tie.After-pack_blocks
   blocks = packed c.before
 
-  kept-2 : length c.fill.new.0 ≡ n blocks
+  kept-2 : length c.fill.new.dst ≡ n blocks
   kept-2 = c.fill.auto.0 ∙ kept blocks
 
-put-fields-requires : tie.Need-put-fields-requires
+put-fields-requires : tie.Need-put_fields-requires
 put-fields-requires c κs =
     let f = c.before.before.before in
     let b = blocks f in
     let a = (start b).args in
     (omega (arith, kept-2 f, (plan b).image, (plan b).head), (plan b).four, ids-narrow a.file.now a.h (n b) (plan b))
 
-put-link-requires : tie.Need-put-link-requires
+put-link-requires : tie.Need-put_link-requires
 put-link-requires c κs =
     let p = c.before.before.before in
     let f = p.before.before.before.before in
     let b = blocks f in
     let a = (start b).args in
-    subst (λ (m : ℕ). Linkable a.h 0 36 m) (sym (p.put-fields.auto.1.0 ∙ kept-2 f))
+    subst (λ (m : ℕ). Linkable a.h 0 36 m) (sym (p.put_fields.auto.1.0 ∙ kept-2 f))
     (linkable a.file.now a.h (n b) (plan b) 0 36 (omega arith) (omega (arith, (plan b).head)))
 
 returns : tie.Need-returns
@@ -54,11 +54,11 @@ returns c =
     let f = p.before.before.before.before in
     let b = blocks f in
     let a = (start b).args in
-    image-packed a.file.now a.h (n b) (plan b) b.pack-blocks.last.1.1.0 _ _ _ (kept b) b.pack-blocks.ensures
-    f.fill.ensures p.put-fields.ensures l.put-link.ensures
+    image-packed a.file.now a.h (n b) (plan b) b.pack_blocks.new.output _ _ _ (kept b) b.pack_blocks.ensures
+    f.fill.ensures p.put_fields.ensures l.put_link.ensures
 
-pub pack-image-spec : {M : Type 1} → statement M
-pack-image-spec =
+pub pack_image_spec : {M : Type 1} → statement M
+pack_image_spec =
     tie.close
     (tie.spec
     (λ c κs. search rules)

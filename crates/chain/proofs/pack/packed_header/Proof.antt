@@ -10,27 +10,27 @@ use Rattle.chain.proofs.PackingLaws.{Counted, counted}
 use Rattle.chain.proofs.pack.packed_header.Statement.{statement}
 use Rattle.chain.proofs.pack.packed_header.Tie as tie
 
-module _ (c : tie.After-block-count) where
+module _ (c : tie.After-block_count-count) where
   abbrev start : tie.Start
   start = c.before.before.before
 
   abbrev room : ℕ
-  room = start.args.block_size - c.before.sum-length.result
+  room = start.args.block_size - c.before.sum_length-sum.result
 
-  is_sum : c.before.sum-length.result ≡ sum_length start.args.ids
-  is_sum = c.before.sum-length.ensures
+  is_sum : c.before.sum_length-sum.result ≡ sum_length start.args.ids
+  is_sum = c.before.sum_length-sum.ensures
 
-  blocks : Counted (length start.args.file.now) room c.block-count.result
+  blocks : Counted (length start.args.file.now) room c.block_count-count.result
   blocks =
-      subst (λ (n : ℕ). Counted (length start.args.file.now) room n) (sym c.block-count.ensures)
-      (counted (length start.args.file.now) room (omega (arith, is_sum, start.pre.above)) (omega (arith, start.pre.below))
-      start.pre.filled start.pre.small)
+      subst (λ (n : ℕ). Counted (length start.args.file.now) room n) (sym c.block_count-count.ensures)
+      (counted (length start.args.file.now) room (omega (arith, is_sum, start.requires.above)) (omega (arith, start.requires.below))
+      start.requires.filled start.requires.small)
 
-  sum-small : c.before.sum-length.result ≤ 256
+  sum-small : c.before.sum_length-sum.result ≤ 256
   sum-small = omega (arith, is_sum, sum_length-four start.args.ids start.good.1.0.1.0.1)
 
-pub packed-header-spec : {M : Type 1} → statement M
-packed-header-spec =
+pub packed_header_spec : {M : Type 1} → statement M
+packed_header_spec =
     tie.close
     (tie.spec
     (λ c κs. search rules)
@@ -45,4 +45,4 @@ packed-header-spec =
     (λ c. search rules)
     (λ c. search rules)
     (λ c. omega (arith, sum-small c))
-    (λ c. rw (c.block-count.ensures, is_sum c)))
+    (λ c. rw (c.block_count-count.ensures, is_sum c)))

@@ -3,7 +3,7 @@ use Rattle.chain.proofs.PackingLaws.{fields-written}
 use Rattle.chain.proofs.pack.put_fields.Statement.{statement}
 use Rattle.chain.proofs.pack.put_fields.Tie as tie
 
-abbrev start : tie.After-ids → tie.Start
+abbrev start : tie.After-ids-1 → tie.Start
 start c = c.before.before.before
 
 returns : tie.Need-returns
@@ -14,11 +14,11 @@ returns c =
     let d₂ = d₃.before.before.before.before in
     let d₁ = d₂.before.before.before.before in
     let s = start d₁.before.before in
-    fields-written s.args.output.now s.pre.0 s.args.h _ _ _ _ _ s.pre.1 d₁.put-sizes.ensures d₂.put-ids.ensures
-    d₃.put-little2.ensures d₄.put-little22.ensures d₅.put-little4.ensures
+    fields-written s.args.output.now s.requires.0 s.args.h _ _ _ _ _ s.requires.1 d₁.put_sizes.ensures d₂.put_ids.ensures
+    d₃.put_little2.ensures d₄.put_little2-2.ensures d₅.put_little4.ensures
 
-pub put-fields-spec : {M : Type 1} → statement M
-put-fields-spec =
+pub put_fields_spec : {M : Type 1} → statement M
+put_fields_spec =
     tie.close
     (tie.spec
     (λ c κs. search rules)

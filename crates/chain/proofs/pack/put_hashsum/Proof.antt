@@ -13,19 +13,19 @@ use Rattle.chain.proofs.HashingLaws.{Hashed, hashed-none, hashed_length, message
 use Rattle.chain.proofs.pack.put_hashsum.Statement.{statement}
 use Rattle.chain.proofs.pack.put_hashsum.Tie as tie
 
-abbrev invariant-loop : tie.invariant-loop
+abbrev invariant-loop : tie.invariant-loop-position
 invariant-loop start end at output₀ ids digest₀ place₀ i₀ output digest place i =
     (i ≤ 4) × (length digest ≡ 64) × Hashed ids output₀ start (end - start) at i output place
 
-abbrev decreases-loop : tie.decreases-loop
+abbrev decreases-loop : tie.decreases-loop-position
 decreases-loop start end at output₀ ids digest₀ place₀ i₀ output digest place i = 4 - i
 
-module _ (l : tie.At-loop invariant-loop decreases-loop) where
+module _ (l : tie.At-loop-position invariant-loop decreases-loop) where
   abbrev start : tie.Start invariant-loop decreases-loop
   start = l.before.before
 
   abbrev ids : List ℕ
-  ids = start.args.t1
+  ids = start.args.ids
 
   abbrev before : List ℕ
   before = start.args.output.now
@@ -36,44 +36,44 @@ module _ (l : tie.At-loop invariant-loop decreases-loop) where
   four : length ids ≡ 4
   four = start.good.0.1.0.1
 
-  kept : length l.loop.output ≡ length before
-  kept = hashed_length l.loop.inv.2 start.pre.0 (omega (arith, start.pre))
+  kept : length l.loop-position.output ≡ length before
+  kept = hashed_length l.loop-position.invariant.2 start.requires.0 (omega (arith, start.requires))
 
-module _ (c : tie.After-digest2 invariant-loop decreases-loop) where
-  abbrev entered : tie.In-loop invariant-loop decreases-loop
+module _ (c : tie.After-digest-n invariant-loop decreases-loop) where
+  abbrev entered : tie.In-loop-position invariant-loop decreases-loop
   entered = c.before.before.before.before
 
-  abbrev turn : tie.At-loop invariant-loop decreases-loop
+  abbrev turn : tie.At-loop-position invariant-loop decreases-loop
   turn = entered.before
 
-  among : turn.loop.position < length (ids turn)
-  among = omega (arith, entered.loop-test.taken, four turn)
+  among : turn.loop-position.position < length (ids turn)
+  among = omega (arith, entered.loop-position-test.taken, four turn)
 
-  digested : Digested (get_or (ids turn) turn.loop.position 0) (part (before turn) (start turn).args.start (n turn))
-      c.digest2.new.1.1.0 c.digest2.result
+  digested : Digested (get_or (ids turn) turn.loop-position.position 0) (part (before turn) (start turn).args.start (n turn))
+      c.digest-n.new.out c.digest-n.result
   digested =
       let l = turn in
       let s = start l in
       record {
-        bytes = c.digest2.ensures.0
-            ∙ ap (λ (t : List ℕ). in_sixty_four (digest (get_or (ids l) l.loop.position 0) t))
-            (message-kept l.loop.inv.2 s.pre.0 (omega (arith, s.pre)));
-        counted = c.digest2.ensures.1;
+        bytes = c.digest-n.ensures.0
+            ∙ ap (λ (t : List ℕ). in_sixty_four (digest (get_or (ids l) l.loop-position.position 0) t))
+            (message-kept l.loop-position.invariant.2 s.requires.0 (omega (arith, s.requires)));
+        counted = c.digest-n.ensures.1;
       }
 
-  fit : turn.loop.place + c.digest2.result ≤ length turn.loop.output
+  fit : turn.loop-position.place + c.digest-n.result ≤ length turn.loop-position.output
   fit =
       let s = start turn in
-      hashed-fits turn.loop.inv.2 s.pre.0 (omega (arith, s.pre)) among digested
+      hashed-fits turn.loop-position.invariant.2 s.requires.0 (omega (arith, s.requires)) among digested
 
-module _ (c : tie.After-slice-known2 invariant-loop decreases-loop) where
+module _ (c : tie.After-slice_known-in-loop-position-1 invariant-loop decreases-loop) where
   abbrev copied : tie.After-copy invariant-loop decreases-loop
   copied = c.before.before
 
-  abbrev hashed : tie.After-digest2 invariant-loop decreases-loop
+  abbrev hashed : tie.After-digest-n invariant-loop decreases-loop
   hashed = copied.before.before.before
 
-loop-again : tie.Need-loop-preserved invariant-loop decreases-loop
+loop-again : tie.Need-loop-position-preserved invariant-loop decreases-loop
 loop-again c =
     let d = hashed c in
     let l = turn d in
@@ -81,22 +81,22 @@ loop-again c =
       omega arith,
       digest-room (digested d),
       subst (λ (t : List ℕ).
-          Hashed (ids l) (before l) s.args.start (n l) s.args.at (l.loop.position + 1) t (l.loop.place + d.digest2.result))
+          Hashed (ids l) (before l) s.args.start (n l) s.args.at (l.loop-position.position + 1) t (l.loop-position.place + d.digest-n.result))
           (sym (copied c).copy.ensures)
-          (hashed-more l.loop.inv.2 s.pre.0 (omega (arith, s.pre)) (among d) (digested d)),
+          (hashed-more l.loop-position.invariant.2 s.requires.0 (omega (arith, s.requires)) (among d) (digested d)),
     )
 
-pub put-hashsum-spec : {M : Type 1} → statement M
-put-hashsum-spec =
+pub put_hashsum_spec : {M : Type 1} → statement M
+put_hashsum_spec =
     tie.close
     (tie.spec
     invariant-loop
     decreases-loop
-    (λ c. let a = c.before.args in (omega arith, refl, hashed-none a.t1 a.output.now a.start (a.end - a.start) a.at))
+    (λ c. let a = c.before.args in (omega arith, refl, hashed-none a.ids a.output.now a.start (a.end - a.start) a.at))
     (λ c. search rules)
     (λ c. search rules)
-    (λ c. omega (arith, (start c.before).pre))
-    (λ c. omega (arith, (start c.before.before).pre))
+    (λ c. omega (arith, (start c.before).requires))
+    (λ c. omega (arith, (start c.before.before).requires))
     (λ c. let l = c.before.before in omega (arith, (start l).requires, kept l))
     (λ c κs. search rules)
     (λ c. digest-within (digested c.before))
@@ -107,4 +107,4 @@ put-hashsum-spec =
     (λ c. search rules)
     loop-again
     (λ c. kept c.before)
-    (λ c. let l = c.before in hashed-all l.loop.invariant.2 (omega (arith, c.loop-test.false, four l))))
+    (λ c. let l = c.before in hashed-all l.loop-position.invariant.2 (omega (arith, c.loop-position-test.false, four l))))

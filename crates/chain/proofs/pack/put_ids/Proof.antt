@@ -5,16 +5,16 @@ use Rattle.chain.proofs.pack.put_ids.Statement.{statement}
 use Rattle.chain.proofs.pack.put_ids.Tie as tie
 
 -- where the function began, before each of the four
-abbrev start : tie.After-put-little2-arg → tie.Start
+abbrev start : tie.After-put_little2-arg-1 → tie.Start
 start c = c.before.before
 
-abbrev start-2 : tie.After-put-little2-arg2 → tie.Start
+abbrev start-2 : tie.After-put_little2-arg-2-1 → tie.Start
 start-2 c = start c.before.before.before.before
 
-abbrev start-3 : tie.After-put-little2-arg3 → tie.Start
+abbrev start-3 : tie.After-put_little2-arg-3-1 → tie.Start
 start-3 c = start-2 c.before.before.before.before
 
-abbrev start-4 : tie.After-put-little2-arg4 → tie.Start
+abbrev start-4 : tie.After-put_little2-arg-4-1 → tie.Start
 start-4 c = start-3 c.before.before.before.before
 
 returns : tie.Need-returns
@@ -24,11 +24,11 @@ returns c =
     let d₂ = d₃.before.before.before.before in
     let d₁ = d₂.before.before.before.before in
     let s = start d₁.before in
-    ids-written s.args.output.now s.pre.0 s.args.t1 _ _ _ _ s.good.0.1.0.1 d₁.put-little2.ensures
-    d₂.put-little22.ensures d₃.put-little23.ensures d₄.put-little24.ensures
+    ids-written s.args.output.now s.requires.0 s.args.ids _ _ _ _ s.good.0.1.0.1 d₁.put_little2.ensures
+    d₂.put_little2-2.ensures d₃.put_little2-3.ensures d₄.put_little2-4.ensures
 
-pub put-ids-spec : {M : Type 1} → statement M
-put-ids-spec =
+pub put_ids_spec : {M : Type 1} → statement M
+put_ids_spec =
     tie.close
     (tie.spec
     (λ c. search rules)

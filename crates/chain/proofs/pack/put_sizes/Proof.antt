@@ -12,11 +12,11 @@ returns c =
     let d₂ = d₃.before.before.before.before in
     let d₁ = d₂.before.before.before.before in
     let s = d₁.before.before.before.before in
-    sizes-written s.args.output.now s.requires s.args.h _ _ _ _ _ _ d₁.put-little4.ensures d₂.put-little42.ensures
-    d₃.put-little43.ensures d₄.put-little44.ensures d₅.put-little2.ensures d₆.put-little22.ensures
+    sizes-written s.args.output.now s.requires s.args.h _ _ _ _ _ _ d₁.put_little4.ensures d₂.put_little4-2.ensures
+    d₃.put_little4-3.ensures d₄.put_little4-4.ensures d₅.put_little2.ensures d₆.put_little2-2.ensures
 
-pub put-sizes-spec : {M : Type 1} → statement M
-put-sizes-spec =
+pub put_sizes_spec : {M : Type 1} → statement M
+put_sizes_spec =
     tie.close
     (tie.spec
     (λ c κs. search rules)
