@@ -34,15 +34,14 @@ module _ (c : tie.After-zero-padding) where
 
 slice-aggregate-ends : tie.Need-slice_bounds-ends-end
 slice-aggregate-ends c =
-    let s = start (padded c.before) in first_part s.args.block.now s.args.s.hashsum_length (omega (arith, s.requires.0))
+    let s = start (padded c) in first_part s.args.block.now s.args.s.hashsum_length (omega (arith, s.requires.0))
 
 returns : tie.Need-returns
 returns c =
     let e = c.before in
-    let z = e.before.before in
-    let h = z.before.before in
+    let z = e.before in
     c.first_broken.ensures
-    ∙ (λ i. first_broken (rule 13 (not (h.hashsum_is-hash.ensures i)) ∷ rule 14 (not (padding z i)) ∷ rule 15 (e.ends-last.ensures i) ∷ []))
+    ∙ (λ i. first_broken (rule 13 (not (c.hashsum_is-hash.ensures i)) ∷ rule 14 (not (padding z i)) ∷ rule 15 (e.ends-last.ensures i) ∷ []))
 
 pub block_code_spec : {M : Type 1} → statement M
 block_code_spec =
@@ -58,6 +57,6 @@ block_code_spec =
     (λ c. let p = c.before in omega (arith, (start p).requires.0, p.padding_of.ensures))
     (λ c κs. search rules)
     slice-aggregate-ends
-    (λ c κs. (start (padded c.before)).requires.1)
+    (λ c κs. (start (padded c)).requires.1)
     (λ c κs. search rules)
     returns)

@@ -54,11 +54,11 @@ module _ (c : tie.After-block-before) where
 
 returns-2 : tie.Need-returns
 returns-2 c =
-    let g = c.before.before in
+    let g = c.before in
     let b = read g in
     let a = (start b).args in
     code_is (start b).requires.0 a.k c.block_code-2.result _ _ c.block_code-2.ensures
-    (field-before (start b).requires.0 a.k g.before.before.if-k-eq0.false _ g.block-before.ensures)
+    (field-before (start b).requires.0 a.k c.if-k-eq0.false _ g.block-before.ensures)
     b.block-bytes.ensures
 
 pub code_at_spec : {M : Type 1} → statement M
@@ -74,6 +74,6 @@ code_at_spec =
     (λ c. search rules)
     (λ c. search rules)
     (λ c κs. let s = start c.before.before in within s (s.args.k - 1) (omega (arith, s.requires.1)))
-    (λ c. let g = c.before in first_part g.block-before.result.now (start (read g)).args.s.hashsum_length (field-within g))
-    (λ c κs. asked (read c.before))
+    (λ c. let g = c in first_part g.block-before.result.now (start (read g)).args.s.hashsum_length (field-within g))
+    (λ c κs. asked (read c))
     returns-2)

@@ -1,5 +1,6 @@
 -- The loop's invariant: what is left to compare decides.
-use mathlib.Core.Path.{◌≡◌, refl, sym, ◌∙◌}
+use mathlib.Core.Bool.{not}
+use mathlib.Core.Path.{◌≡◌, refl, sym, ap, ◌∙◌}
 use Prim.Native.Nat.{ℕ, ◌+◌, ◌-◌, ◌≤◌}
 use native.Mathlib.Omega.{arith}
 use borrow.Author.Rules.{rules}
@@ -27,7 +28,7 @@ module _ (l : tie.At-loop-position invariant-loop decreases-loop) where
       ≡ Left start.args.ids start.args.message.now start.args.expected.now i at
 
   four : length start.args.ids ≡ 4
-  four = start.good.0.1.0.1
+  four = start.well_formed.0.1.0.1
 
 module _ (c : tie.After-digest-n invariant-loop decreases-loop) where
   abbrev turn : tie.At-loop-position invariant-loop decreases-loop
@@ -45,7 +46,7 @@ returns c =
     sym
     (l.loop-position.invariant.3
     ∙ compared-other a.ids a.message.now a.expected.now l.loop-position.position l.loop-position.at (omega (arith, four l)) (digested d)
-    c.before.stands_at.ensures c.if-not-stands_at.true)
+    c.before.stands_at.ensures (ap not c.if-not-stands_at.true))
 
 -- what the loop's turn leaves
 turned : (c : tie.Else-not-stands_at invariant-loop decreases-loop) →
@@ -59,7 +60,7 @@ turned c =
     let a = (start l).args in
     let m =
     compared-more a.ids a.message.now a.expected.now l.loop-position.position l.loop-position.at (omega (arith, four l)) (digested d)
-    c.before.stands_at.ensures c.if-not-stands_at.false l.loop-position.invariant.2 in
+    c.before.stands_at.ensures (ap not c.if-not-stands_at.false) l.loop-position.invariant.2 in
     (m.0, l.loop-position.invariant.3 ∙ m.1)
 
 loop-again : tie.Need-loop-position-preserved invariant-loop decreases-loop

@@ -31,7 +31,7 @@ size_holds c =
     let s = numbers b.before in
     zero-all-hold (block_size_rules s.block_size s.hashsum_length) tt (sym b.block_size_code-code.ensures ∙ c.if-code-ne-DONE.false)
 
-sub-if3 : tie.Need-overflow-sub-if3
+sub-if3 : tie.Need-overflow_sub-block_size
 sub-if3 c =
     let s = numbers c.before.before in
     omega (arith, leb-false s.block_size s.hashsum_length (size_holds c).0)

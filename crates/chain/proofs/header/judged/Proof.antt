@@ -41,7 +41,7 @@ returns-2 c =
     let b = t.before in
     let s = b.before.before.before.before in
     judged-refused (own_rules s) (approved s) 4
-    (simp (le-ltb _ _ b.before.if-approved-lt36.false, ap not (sym b.starts_with.ensures) ∙ t.if-not-starts_with.true))
+    (simp (le-ltb _ _ b.before.if-approved-lt36.false, ap not (sym b.starts_with.ensures) ∙ ap not t.if-not-starts_with.true))
     (λ z. omega arith) c.refusal-then-not-starts_with.ensures
 
 module _ (c : tie.After-field_code-code) where
@@ -56,7 +56,7 @@ module _ (c : tie.After-field_code-code) where
 
   past-start : first_broken (own_rules start) ≡ first_broken (fields ++ exactly start)
   past-start =
-      simp (le-ltb _ _ started.before.if-approved-lt36.false, ap not (sym started.starts_with.ensures) ∙ c.before.before.before.if-not-starts_with.false)
+      simp (le-ltb _ _ started.before.if-approved-lt36.false, ap not (sym started.starts_with.ensures) ∙ ap not c.before.before.before.if-not-starts_with.false)
 
   judged : c.field_code-code.result ≡ first_broken fields
   judged =

@@ -84,7 +84,7 @@ copy_file_spec =
     data-fits s.args.image.now s.args.first (stream (turn e)) s.requires.within (turn e).loop-k.k (among e) s.requires.sized
     c.block-block.ensures)
     (λ c κs. fit c.before)
-    (λ c. let b = c.before.before.before.before in omega (arith, fit b, kept (turn (entered b)), (start (turn (entered b))).good))
+    (λ c. let b = c.before.before.before.before in omega (arith, fit b, kept (turn (entered b)), (start (turn (entered b))).well_formed))
     (λ c. search rules)
     (λ c. search rules)
     loop-again

@@ -91,14 +91,12 @@ returns-2 c =
 
 returns-3 : tie.Need-returns
 returns-3 c =
-    let w = c.before.before.before in
-    let p = w.before.before in
-    let f = p.before.before in
+    let f = c.before.before.before.before.before.before.before.before in
     let e = through f in
     let j = judged e in
-    answered-proved (image j) (approved j) (signature j) (before j) (passed e) p.proved-p.ensures
-    (past e ∙ simp (eq-eqb _ _ (p.before.if-output-file_length.false ∙ exact f))) w.copy_file-stored.result _ w.copy_file-stored.ensures.0
-    w.copy_file-stored.ensures.1
+    answered-proved (image j) (approved j) (signature j) (before j) (passed e) c.proved-p.ensures
+    (past e ∙ simp (eq-eqb _ _ (c.if-output-file_length.false ∙ exact f))) c.copy_file-stored.result _ c.copy_file-stored.ensures.0
+    c.copy_file-stored.ensures.1
     c.told.ensures
 
 pub open_answer_spec : {M : Type 1} → statement M
@@ -111,11 +109,11 @@ open_answer_spec =
     (λ c κs. sized (passed c.before))
     (λ c κs. search rules)
     returns-2
-    (λ c. let e = through c.before in omega (arith, image-fits (passed e), (start (judged e)).good))
+    (λ c. let e = through c.before in omega (arith, image-fits (passed e), (start (judged e)).well_formed))
     (λ c κs. passed (through c.before))
     (λ c κs. let p = c.before in let f = p.before.before in let j = judged (through f) in
     copyable (image j) (approved j) (signature j) (before j) (passed (through f)) p.proved-p.ensures
-    (p.before.if-output-file_length.false ∙ f.file_length.ensures))
+    (c.if-output-file_length.false ∙ f.file_length.ensures))
     (λ c κs. search rules)
     (λ c. search rules)
     returns-3)

@@ -34,7 +34,7 @@ returns : tie.Need-returns-then-j-ne-DONE
 returns c =
     let t = c.before in
     let b = t.before in
-    let p = (start b).args.image.ptr in
+    let p = (start b).args.image.ref_ptr in
     let at : 0 + p.1 ≡ p.1 + field_start (image b) (header b) (signature b) =
     omega (arith, starts-nowhere (image b) (header b) (signature b) _ (code b) t.if-j-ne-DONE.true) in (
       sym (empty-field (image b) (header b) (signature b) (λ e. t.if-j-ne-DONE.true (code b ∙ e))),
@@ -56,7 +56,7 @@ returns-2 : tie.Need-returns
 returns-2 c =
     let e = c.before in
     let b = e.before in
-    let p = (start b).args.image.ptr in
+    let p = (start b).args.image.ref_ptr in
     let n : length (header b) + signature b - length (header b) ≡ signature b = omega arith in
     let at : length (header b) + p.1 ≡ p.1 + field_start (image b) (header b) (signature b) =
     omega (arith, starts-behind (image b) (header b) (signature b) _ (code b) e.if-j-ne-DONE.false) in (
@@ -73,7 +73,7 @@ signature_field_spec =
     (λ c. search rules)
     (λ c. search rules)
     returns
-    (λ c. omega (arith, within c, (start c.before).good))
+    (λ c. omega (arith, within c, (start c.before).well_formed))
     (λ c. search rules)
     (λ c. search rules)
     (λ c. omega (arith, within c))

@@ -43,9 +43,9 @@ put-data-requires c κs =
     let l = linked c.before in
     let b = placed c.before in
     let s = start b in (
-      subst (λ (n : ℕ). Planned s.args.file.now s.args.h n) (sym l.put_link.kept.1.1.1.0) s.requires.0,
+      subst (λ (n : ℕ). Planned s.args.file.now s.args.h n) (sym l.put_link.auto.output) s.requires.0,
       s.requires.1,
-      omega (arith, b.block_start-at.ensures, inside s, (plan s).above, l.put_link.kept.1.1.1.0),
+      omega (arith, b.block_start-at.ensures, inside s, (plan s).above, l.put_link.auto.output),
     )
 
 returns : tie.Need-returns

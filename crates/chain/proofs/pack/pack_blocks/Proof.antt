@@ -44,7 +44,7 @@ loop-again : tie.Need-loop-k-preserved invariant-loop decreases-loop
 loop-again c =
     let d = c.before.before in
     let l = d.before.before.before in
-    (omega (arith, l.loop-k.invariant.0), d.pack_block.auto.1.1.1.0 ∙ l.loop-k.invariant.1, d.pack_block.ensures)
+    (omega (arith, l.loop-k.invariant.0), d.pack_block.auto.output ∙ l.loop-k.invariant.1, d.pack_block.ensures)
 
 returns : tie.Need-returns invariant-loop decreases-loop
 returns c =

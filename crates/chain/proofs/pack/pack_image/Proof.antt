@@ -19,7 +19,7 @@ module _ (c : tie.After-pack_blocks) where
   plan = planned start.args.file.now start.args.h n start.requires
 
   kept : length c.pack_blocks.new.output ≡ n
-  kept = c.pack_blocks.auto.1.1.0
+  kept = c.pack_blocks.auto.output
 
 abbrev packed : tie.After-fill-arg-1 → tie.After-pack_blocks
 packed c = let k = c.before in k.before.before.before.before
@@ -29,7 +29,7 @@ module _ (c : tie.After-fill) where
   blocks = packed c.before
 
   kept-2 : length c.fill.new.dst ≡ n blocks
-  kept-2 = c.fill.auto.0 ∙ kept blocks
+  kept-2 = c.fill.auto.dst ∙ kept blocks
 
 put-fields-requires : tie.Need-put_fields-requires
 put-fields-requires c κs =
@@ -44,7 +44,7 @@ put-link-requires c κs =
     let f = p.before.before.before.before in
     let b = blocks f in
     let a = (start b).args in
-    subst (λ (m : ℕ). Linkable a.h 0 36 m) (sym (p.put_fields.auto.1.0 ∙ kept-2 f))
+    subst (λ (m : ℕ). Linkable a.h 0 36 m) (sym (p.put_fields.auto.output ∙ kept-2 f))
     (linkable a.file.now a.h (n b) (plan b) 0 36 (omega arith) (omega (arith, (plan b).head)))
 
 returns : tie.Need-returns

@@ -27,7 +27,7 @@ module _ (c : tie.After-block_count-count) where
       start.requires.filled start.requires.small)
 
   sum-small : c.before.sum_length-sum.result ≤ 256
-  sum-small = omega (arith, is_sum, sum_length-four start.args.ids start.good.1.0.1.0.1)
+  sum-small = omega (arith, is_sum, sum_length-four start.args.ids start.well_formed.1.0.1.0.1)
 
 pub packed_header_spec : {M : Type 1} → statement M
 packed_header_spec =

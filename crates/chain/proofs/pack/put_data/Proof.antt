@@ -54,7 +54,7 @@ copy-requires c κs =
       (bytes b).front,
       (bytes b).padded,
       e,
-      (filled d).fill.auto.0,
+      (filled d).fill.auto.dst,
       length_part (start b).args.file.now from (from + (room b - q) - from) (omega (arith, (bytes b).ends)),
     )
 

@@ -34,20 +34,20 @@ module _ (l : tie.At-loop-position invariant-loop decreases-loop) where
   n = start.args.end - start.args.start
 
   four : length ids ≡ 4
-  four = start.good.0.1.0.1
+  four = start.well_formed.0.1.0.1
 
   kept : length l.loop-position.output ≡ length before
   kept = hashed_length l.loop-position.invariant.2 start.requires.0 (omega (arith, start.requires))
 
 module _ (c : tie.After-digest-n invariant-loop decreases-loop) where
   abbrev entered : tie.In-loop-position invariant-loop decreases-loop
-  entered = c.before.before.before.before
+  entered = c.before.before.before
 
   abbrev turn : tie.At-loop-position invariant-loop decreases-loop
   turn = entered.before
 
   among : turn.loop-position.position < length (ids turn)
-  among = omega (arith, entered.loop-position-test.taken, four turn)
+  among = omega (arith, entered.loop-position-test.true, four turn)
 
   digested : Digested (get_or (ids turn) turn.loop-position.position 0) (part (before turn) (start turn).args.start (n turn))
       c.digest-n.new.out c.digest-n.result
@@ -96,13 +96,13 @@ put_hashsum_spec =
     (λ c. search rules)
     (λ c. search rules)
     (λ c. omega (arith, (start c.before).requires))
-    (λ c. omega (arith, (start c.before.before).requires))
-    (λ c. let l = c.before.before in omega (arith, (start l).requires, kept l))
+    (λ c. omega (arith, (start c.before).requires))
+    (λ c. let l = c.before in omega (arith, (start l).requires, kept l))
     (λ c κs. search rules)
     (λ c. digest-within (digested c.before))
     (λ c. sym (digest-counted (digested c.before.before)))
     (λ c κs. let d = c.before.before in omega (arith, fit d, digest-counted (digested d)))
-    (λ c. let d = hashed c in omega (arith, fit d, kept (turn d), (start (turn d)).good))
+    (λ c. let d = hashed c in omega (arith, fit d, kept (turn d), (start (turn d)).well_formed))
     (λ c. search rules)
     (λ c. search rules)
     loop-again

@@ -24,7 +24,7 @@ returns c =
     let d₂ = d₃.before.before.before.before in
     let d₁ = d₂.before.before.before.before in
     let s = start d₁.before in
-    ids-written s.args.output.now s.requires.0 s.args.ids _ _ _ _ s.good.0.1.0.1 d₁.put_little2.ensures
+    ids-written s.args.output.now s.requires.0 s.args.ids _ _ _ _ s.well_formed.0.1.0.1 d₁.put_little2.ensures
     d₂.put_little2-2.ensures d₃.put_little2-3.ensures d₄.put_little2-4.ensures
 
 pub put_ids_spec : {M : Type 1} → statement M
