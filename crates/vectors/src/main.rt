@@ -4,56 +4,59 @@
 
 ghost use Rattle.std.specs.Prelude.{◌≤◌};
 
-fn main() {
-    published();
+use std::io;
+
+fn main(rt: HostRuntime) -> io::Result<()> {
+    published(&rt)?;
     // about the lengths at which the padding needs another block
-    border(b"border-55", 55);
-    border(b"border-56", 56);
-    border(b"border-57", 57);
-    border(b"border-63", 63);
-    border(b"border-64", 64);
-    border(b"border-65", 65);
-    border(b"border-111", 111);
-    border(b"border-112", 112);
-    border(b"border-113", 113);
-    border(b"border-119", 119);
-    border(b"border-120", 120);
-    border(b"border-127", 127);
-    border(b"border-128", 128);
-    border(b"border-129", 129);
+    border(&rt, "border-55", 55)?;
+    border(&rt, "border-56", 56)?;
+    border(&rt, "border-57", 57)?;
+    border(&rt, "border-63", 63)?;
+    border(&rt, "border-64", 64)?;
+    border(&rt, "border-65", 65)?;
+    border(&rt, "border-111", 111)?;
+    border(&rt, "border-112", 112)?;
+    border(&rt, "border-113", 113)?;
+    border(&rt, "border-119", 119)?;
+    border(&rt, "border-120", 120)?;
+    border(&rt, "border-127", 127)?;
+    border(&rt, "border-128", 128)?;
+    border(&rt, "border-129", 129)?;
+    Ok(())
 }
 
 // The messages of the standard's published examples, whole and in pieces that end before, at and behind a block's border.
-fn published() {
+fn published(rt: &impl Print) -> io::Result<()> {
     let none = [0u8; 0];
-    lines(b"empty", &none);
-    lines(b"abc", b"abc");
-    pieces(b"abc-by-1", b"abc", 1);
+    lines(rt, "empty", &none)?;
+    lines(rt, "abc", b"abc")?;
+    pieces(rt, "abc-by-1", b"abc", 1)?;
     let short = b"abcdbcdecdefdefgefghfghighijhijkijkljklmklmnlmnomnopnopq";
-    lines(b"448-bit", short);
-    pieces(b"448-bit-by-55", short, 55);
+    lines(rt, "448-bit", short)?;
+    pieces(rt, "448-bit-by-55", short, 55)?;
     let long =
         b"abcdefghbcdefghicdefghijdefghijkefghijklfghijklmghijklmnhijklmnoijklmnopjklmnopqklmnopqrlmnopqrsmnopqrstnopqrstu";
-    lines(b"896-bit", long);
-    pieces(b"896-bit-by-1", long, 1);
-    pieces(b"896-bit-by-63", long, 63);
-    pieces(b"896-bit-by-64", long, 64);
-    pieces(b"896-bit-by-65", long, 65);
+    lines(rt, "896-bit", long)?;
+    pieces(rt, "896-bit-by-1", long, 1)?;
+    pieces(rt, "896-bit-by-63", long, 63)?;
+    pieces(rt, "896-bit-by-64", long, 64)?;
+    pieces(rt, "896-bit-by-65", long, 65)?;
     let message = [b'a'; 1000000];
-    million(&message);
+    million(rt, &message)
 }
 
 // The array's length is known here by its type: proving it from the value builds a list of a million.
-fn million(message: &[u8; 1000000]) {
-    lines(b"million-a", message);
-    pieces(b"million-a-by-1", message, 1);
-    pieces(b"million-a-by-127", message, 127);
-    pieces(b"million-a-by-128", message, 128);
-    pieces(b"million-a-by-1000", message, 1000);
+fn million(rt: &impl Print, message: &[u8; 1000000]) -> io::Result<()> {
+    lines(rt, "million-a", message)?;
+    pieces(rt, "million-a-by-1", message, 1)?;
+    pieces(rt, "million-a-by-127", message, 127)?;
+    pieces(rt, "million-a-by-128", message, 128)?;
+    pieces(rt, "million-a-by-1000", message, 1000)
 }
 
 // The message of `length` bytes whose byte i is i mod 251.
-fn border(name: &[u8], length: usize)
+fn border(rt: &impl Print, name: &str, length: usize) -> io::Result<()>
     requires { length ≤ 129 }
 {
     let mut message = [0u8; 129];
@@ -62,36 +65,43 @@ fn border(name: &[u8], length: usize)
         message[i] = (i % 251) as u8;
         i += 1;
     }
-    lines(name, &message[..length]);
+    lines(rt, name, &message[..length])
 }
 
-fn lines(name: &[u8], message: &[u8]) {
-    line(2, b"sha256 ", name, message);
-    line(3, b"sha384 ", name, message);
-    line(4, b"sha512 ", name, message);
+fn lines(rt: &impl Print, name: &str, message: &[u8]) -> io::Result<()> {
+    line(rt, 2, "sha256 ", name, message)?;
+    line(rt, 3, "sha384 ", name, message)?;
+    line(rt, 4, "sha512 ", name, message)
 }
 
-fn line(id: u64, hash: &[u8], name: &[u8], message: &[u8]) {
+fn line(rt: &impl Print, id: u64, hash: &str, name: &str, message: &[u8]) -> io::Result<()> {
     let mut digest = [0u8; 64];
     let length = hashes::digest(id, message, &mut digest);
-    write(hash, name, &digest, length);
+    write(rt, hash, name, &digest, length)
 }
 
 // The same of a message fed in pieces of `size` bytes.
-fn pieces(name: &[u8], message: &[u8], size: usize)
+fn pieces(rt: &impl Print, name: &str, message: &[u8], size: usize) -> io::Result<()>
     requires { 1 ≤ size }
 {
-    piece_line(2, b"sha256 ", name, message, size);
-    piece_line(3, b"sha384 ", name, message, size);
-    piece_line(4, b"sha512 ", name, message, size);
+    piece_line(rt, 2, "sha256 ", name, message, size)?;
+    piece_line(rt, 3, "sha384 ", name, message, size)?;
+    piece_line(rt, 4, "sha512 ", name, message, size)
 }
 
-fn piece_line(id: u64, hash: &[u8], name: &[u8], message: &[u8], size: usize)
+fn piece_line(
+    rt: &impl Print,
+    id: u64,
+    hash: &str,
+    name: &str,
+    message: &[u8],
+    size: usize,
+) -> io::Result<()>
     requires { 1 ≤ size }
 {
     let mut digest = [0u8; 64];
     let length = fed(hashes::Hasher::begin(id), message, size).finish(&mut digest);
-    write(hash, name, &digest, length);
+    write(rt, hash, name, &digest, length)
 }
 
 fn fed(hasher: hashes::Hasher, message: &[u8], size: usize) -> hashes::Hasher
@@ -106,25 +116,26 @@ fn fed(hasher: hashes::Hasher, message: &[u8], size: usize) -> hashes::Hasher
     h.fed(&message[at..])
 }
 
-fn write(hash: &[u8], name: &[u8], digest: &[u8; 64], length: usize) {
-    io::write_all(1, hash);
-    io::write_all(1, name);
-    io::write_all(1, b" ");
-    hex(digest, length);
-    io::write_all(1, b"\n");
+fn write(
+    rt: &impl Print,
+    hash: &str,
+    name: &str,
+    digest: &[u8; 64],
+    length: usize,
+) -> io::Result<()> {
+    print!(rt; "{hash}{name} ")?;
+    hex(rt, digest, length)?;
+    println!(rt; "")
 }
 
 // Writes the first `length` of the bytes.
-fn hex(bytes: &[u8; 64], length: usize) {
+fn hex(rt: &impl Print, bytes: &[u8; 64], length: usize) -> io::Result<()> {
     let mut i = 0usize;
     while i < 64 {
         if i < length {
-            io::print_hex(1, wide(bytes[i]), 2);
+            print!(rt; "{:02x}", bytes[i])?;
         }
         i += 1;
     }
-}
-
-fn wide(x: u8) -> u64 {
-    x as u64
+    Ok(())
 }
