@@ -4,7 +4,6 @@ use mathlib.Core.List.{List}
 use mathlib.Core.Path.{◌≡◌, sym, ap, ◌∙◌}
 use Prim.Native.Nat.{ℕ, ◌+◌, ◌-◌, ◌≤◌}
 use native.Mathlib.Omega.{arith}
-use borrow.Author.Tests.{not-true, not-false}
 use Rattle.board.specs.Cpuid.{leaves, ascending}
 use Rattle.board.proofs.WalkLaws.{leaves_left, leaves_all, ascending-on, ascending-end}
 use Rattle.board.proofs.cpuid.ascends.Statement.{statement}
@@ -27,7 +26,7 @@ returns c =
     sym
     (l.invariant.1 ∙ ascending-on table l.i (omega arith)
     ∙ ap (λ (t : Bool). cond t (ascending (leaves_left table (l.i + 1))) false)
-    (sym c.before.is_before.ensures ∙ not-true _ c.if-not-is_before.true))
+    (sym c.before.is_before.ensures ∙ c.if-not-is_before.true))
 
 loop-again : tie.Need-loop-i-preserved invariant-loop decreases-loop
 loop-again c =
@@ -36,7 +35,7 @@ loop-again c =
       omega arith,
       l.invariant.1 ∙ ascending-on table l.i (omega arith)
           ∙ ap (λ (t : Bool). cond t (ascending (leaves_left table (l.i + 1))) false)
-          (sym c.before.is_before.ensures ∙ not-false _ c.if-not-is_before.false),
+          (sym c.before.is_before.ensures ∙ c.if-not-is_before.false),
     )
 
 returns-2 : tie.Need-returns invariant-loop decreases-loop

@@ -6,7 +6,6 @@ use Prim.Native.Nat.{ℕ, ◌/◌}
 use native.Mathlib.Omega.{arith}
 use lib.ListN.{length}
 use borrow.Author.Rules.{rules}
-use borrow.Author.Tests.{not-true, not-false}
 use Rattle.board.specs.Cpuid.{leaf}
 use Rattle.board.proofs.TableLaws.{table-refused, table-holds, ascends-holds, ascends-means}
 use Rattle.board.proofs.cpuid.table_code.Statement.{statement}
@@ -26,7 +25,7 @@ returns-3 : tie.Need-returns-then-not-ascends
 returns-3 c =
     let table = given c.before in
     table-refused table
-    (λ t. false≢true (sym (not-true _ c.if-not-ascends.true) ∙ c.before.ascends.ensures
+    (λ t. false≢true (sym (c.if-not-ascends.true) ∙ c.before.ascends.ensures
     ∙ ascends-holds (leaf table) (length table / 24) t.order))
 
 returns-4 : tie.Need-returns
@@ -37,7 +36,7 @@ returns-4 c =
     (record {
       records = omega arith;
       bounded = omega arith;
-      order = ascends-means (leaf table) (length table / 24) (sym c.before.ascends.ensures ∙ not-false _ c.if-not-ascends.false);
+      order = ascends-means (leaf table) (length table / 24) (sym c.before.ascends.ensures ∙ c.if-not-ascends.false);
     }))
 
 pub table_code_spec : {M : Type 1} → statement M

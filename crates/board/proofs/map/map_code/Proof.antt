@@ -3,7 +3,6 @@ use mathlib.Core.Bool.{false≢true}
 use mathlib.Core.Path.{sym, ◌∙◌}
 use native.Mathlib.Omega.{arith}
 use borrow.Author.Rules.{rules}
-use borrow.Author.Tests.{not-true, not-false}
 use Rattle.board.specs.Map.{regions}
 use Rattle.board.proofs.MapLaws.{map-refused, map-holds, ordered-holds, ordered-means}
 use Rattle.board.proofs.map.map_code.Statement.{statement}
@@ -32,10 +31,10 @@ returns-4 : tie.Need-returns-then-not-in_order
 returns-4 c =
     let a = (given c.before).args in
     map-refused a.map.now a.memory
-    (λ t. false≢true (sym (not-true _ c.if-not-in_order.true) ∙ c.before.in_order.ensures ∙ ordered-holds 0 (regions a.map.now) t.order))
+    (λ t. false≢true (sym (c.if-not-in_order.true) ∙ c.before.in_order.ensures ∙ ordered-holds 0 (regions a.map.now) t.order))
 
 total-requires : tie.Need-total-sum-requires
-total-requires c κs = sym c.before.in_order.ensures ∙ not-false _ c.if-not-in_order.false
+total-requires c κs = sym c.before.in_order.ensures ∙ c.if-not-in_order.false
 
 returns-5 : tie.Need-returns-then-sum-gt4294967296
 returns-5 c =
@@ -57,7 +56,7 @@ returns-7 c =
       records = omega arith;
       nonempty = omega arith;
       bounded = omega arith;
-      order = ordered-means 0 (regions a.map.now) (sym d.before.in_order.ensures ∙ not-false _ d.if-not-in_order.false);
+      order = ordered-means 0 (regions a.map.now) (sym d.before.in_order.ensures ∙ d.if-not-in_order.false);
       small = omega arith;
       lent = omega arith;
     }))

@@ -31,7 +31,7 @@ returns c =
     let start = given c.before in
     sym (l.invariant.1 ∙ uncovered-stops start.args.map.now l.i (omega arith) start.requires l.first (omega arith))
 
-add-later : tie.Need-overflow-add-later invariant-loop decreases-loop
+add-later : tie.Need-overflow_add-low invariant-loop decreases-loop
 add-later c =
     let start = given c.before.before in
     omega (arith, end-small start.args.map.now c.before.before.before.before.loop-i.i (omega arith) start.requires)

@@ -10,6 +10,6 @@ pub mode_code_spec : {M : Type 1} → statement M
 mode_code_spec =
     tie.close
     (tie.spec
-    (λ c. sym (ap (λ (m : ℕ). first_broken (mode_rules m)) c.in_default.keys1))
-    (λ c. sym (ap (λ (m : ℕ). first_broken (mode_rules m)) c.in_default.keys2))
-    (λ c. simp (ne_eqb _ _ c.in_default.rest.0.1, ne_eqb _ _ c.in_default.rest.1)))
+    (λ c. sym (ap (λ (m : ℕ). first_broken (mode_rules m)) c.in-32.is))
+    (λ c. sym (ap (λ (m : ℕ). first_broken (mode_rules m)) c.in-64.is))
+    (λ c. simp (ne_eqb _ _ c.in_default.in_default-own.rest.0.1, ne_eqb _ _ c.in_default.in_default-own.rest.1)))
