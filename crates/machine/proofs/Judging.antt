@@ -401,9 +401,9 @@ module _ (on : Setting) (xs : List ℕ) (b : ℕ) where
           no_store,
         )))
 
-    header_read : s.phase ≡ Header → HasMagic xs × AtCommand on xs s → Reads (react Header on s b)
+    reads-header : s.phase ≡ Header → HasMagic xs × AtCommand on xs s → Reads (react Header on s b)
     unfolding react header_read
-    header_read e (has, at) =
+    reads-header e (has, at) =
         let u = kept b s in
         gathers-read s has at 16 (header_read on.job.length) (λ r. subst (λ (q : Phase). Read on ys q u) (sym e) r)
         (λ all. says-read u (has_more s has at) used-one (begins-more s has at) (so_far_more s has at) (quiet-more s has at)
@@ -453,7 +453,7 @@ module _ (on : Setting) (xs : List ℕ) (b : ℕ) where
 
     react-read : (p : Phase) → s.phase ≡ p → Running p → Meant on p s → Read on xs p s → Reads (react p on s b)
     react-read Magic e r m h = magic-read e h (omega (arith, m.0, m.1))
-    react-read Header e r m h = header_read e h
+    react-read Header e r m h = reads-header e h
     react-read (Parameters k) e r m h = judges-read k e m h
     react-read (Storing a left) e r m h = storing-read a left m h
     react-read (Skipping left) e r m h = skipping-read left h

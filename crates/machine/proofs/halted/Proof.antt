@@ -4,8 +4,8 @@ use Rattle.machine.specs.Machine.{halted}
 use Rattle.machine.proofs.halted.Statement.{statement}
 use Rattle.machine.proofs.halted.Tie as tie
 
-pub halted-spec : {M : Type 1} → statement M
-halted-spec =
+pub halted_spec : {M : Type 1} → statement M
+halted_spec =
     tie.close
     (tie.spec
     (λ c. search rules)
@@ -19,4 +19,4 @@ halted-spec =
     (λ c. search rules)
     (λ c. search rules)
     (λ c. search rules)
-    (λ c. sym (ap halted c.before.phase.given.1)))
+    (λ c. sym (ap halted c.in-Stopped.is)))

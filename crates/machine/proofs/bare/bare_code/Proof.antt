@@ -27,50 +27,50 @@ module _ (s : tie.Start) where
   all = modes ++ (sizes ++ (maps ++ tables))
 
 -- the mode has passed, then the size, then the map
-module _ (e : tie.Else1) where
+module _ (e : tie.Else-first-ne-DONE) where
   abbrev start : tie.Start
   start = let k = e.before in k.before.before.before.before
 
   sizes-next : first_broken (all start) ≡ first_broken (sizes start ++ (maps start ++ tables start))
-  sizes-next = goes_on (modes start) (sizes start ++ (maps start ++ tables start)) _ tt e.before.mode-code.ensures e.if1.left
+  sizes-next = goes_on (modes start) (sizes start ++ (maps start ++ tables start)) _ tt e.mode_code-first.ensures e.if-first-ne-DONE.false
 
-module _ (e : tie.Else2) where
+module _ (e : tie.Else-second-ne-DONE) where
   abbrev second : tie.Start
   second = start e.before.before
 
   maps-next : first_broken (all second) ≡ first_broken (maps second ++ tables second)
   maps-next =
       sizes-next e.before.before
-      ∙ goes_on (sizes second) (maps second ++ tables second) _ tt e.before.size-code.ensures e.if2.left
+      ∙ goes_on (sizes second) (maps second ++ tables second) _ tt e.size_code-second.ensures e.if-second-ne-DONE.false
 
-module _ (e : tie.Else3) where
+module _ (e : tie.Else-third-ne-DONE) where
   abbrev third : tie.Start
   third = second e.before.before
 
   tables-next : first_broken (all third) ≡ first_broken (tables third)
   tables-next =
-      maps-next e.before.before ∙ goes_on (maps third) (tables third) _ tt e.before.map-code.ensures e.if3.left
+      maps-next e.before.before ∙ goes_on (maps third) (tables third) _ tt e.map_code-third.ensures e.if-third-ne-DONE.false
 
-mode-refused : tie.Need-returns
+mode-refused : tie.Need-returns-then-first-ne-DONE
 mode-refused c =
     let k = c.before in
     let s = k.before.before.before.before in
-    refuses (modes s) (sizes s ++ (maps s ++ tables s)) _ tt k.mode-code.ensures c.if1.true
+    refuses (modes s) (sizes s ++ (maps s ++ tables s)) _ tt k.mode_code-first.ensures c.if-first-ne-DONE.true
 
-size-refused : tie.Need-returns-2
+size-refused : tie.Need-returns-then-second-ne-DONE
 size-refused c =
     let e = c.before.before in
     let s = start e in
-    refuses (sizes s) (maps s ++ tables s) _ tt c.before.size-code.ensures c.if2.true ∙ sym (sizes-next e)
+    refuses (sizes s) (maps s ++ tables s) _ tt c.size_code-second.ensures c.if-second-ne-DONE.true ∙ sym (sizes-next e)
 
-map-refused : tie.Need-returns-3
+map-refused : tie.Need-returns-then-third-ne-DONE
 map-refused c =
     let e = c.before.before in
     let s = second e in
-    refuses (maps s) (tables s) _ tt c.before.map-code.ensures c.if3.true ∙ sym (maps-next e)
+    refuses (maps s) (tables s) _ tt c.map_code-third.ensures c.if-third-ne-DONE.true ∙ sym (maps-next e)
 
-pub bare-code-spec : {M : Type 1} → statement M
-bare-code-spec =
+pub bare_code_spec : {M : Type 1} → statement M
+bare_code_spec =
     tie.close
     (tie.spec
     (λ c κs. search rules)
@@ -80,4 +80,4 @@ bare-code-spec =
     (λ c κs. search rules)
     map-refused
     (λ c κs. search rules)
-    (λ c. c.table-code.ensures ∙ sym (tables-next c.before)))
+    (λ c. c.table_code.ensures ∙ sym (tables-next c.before)))

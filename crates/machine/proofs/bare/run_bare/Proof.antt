@@ -15,8 +15,8 @@ use Rattle.machine.proofs.bare.run_bare.Statement.{statement}
 use Rattle.machine.proofs.bare.run_bare.Tie as tie
 
 -- what the run is given
-module _ (k : tie.After-slice-known2) where
-  abbrev known : tie.After-shared-slice-known
+module _ (k : tie.After-slice_known-2-1) where
+  abbrev known : tie.After-shared_slice_known-1
   known = k.before.before.before.before
 
   abbrev start : tie.Start
@@ -32,78 +32,78 @@ module _ (k : tie.After-slice-known2) where
       }
 
 -- the arguments are judged
-module _ (k : tie.After-bare-code) where
-  abbrev came : tie.After-slice-known2
+module _ (k : tie.After-bare_code-code) where
+  abbrev came : tie.After-slice_known-2-1
   came = k.before.before
 
   fits : length (start came).args.answer.now ≡ record_length
-  fits = k.before.if1.left
+  fits = k.if-answer-ne-RECORD_LENGTH.false
 
-unwritten : tie.Need-returns
+unwritten : tie.Need-returns-then-answer-ne-RECORD_LENGTH
 unwritten c =
     let s = start c.before in
-    bare-unwritten (lent c.before) s.args.memory.now s.args.answer.now c.if1.true
+    bare-unwritten (lent c.before) s.args.memory.now s.args.answer.now c.if-answer-ne-RECORD_LENGTH.true
 
-refuses : tie.Need-returns-2
+refuses : tie.Need-returns-then-code-ne-DONE
 refuses c =
     let w = c.before.before in
     let r = w.before in
     let t = r.before.before in
     let k = t.before in
     let s = start (came k) in
-    bare-refuses (lent (came k)) s.args.memory.now s.args.answer.now (fits k) r.refused.result w.write-answer.ensures.1
-    w.write-answer.ensures.0 (λ z. t.if2.true (k.bare-code.ensures ∙ z))
-    (r.refused.ensures ∙ ap answers.refused k.bare-code.ensures)
+    bare-refuses (lent (came k)) s.args.memory.now s.args.answer.now (fits k) r.refused.result w.write_answer.ensures.1
+    w.write_answer.ensures.0 (λ z. t.if-code-ne-DONE.true (k.bare_code-code.ensures ∙ z))
+    (r.refused.ensures ∙ ap answers.refused k.bare_code-code.ensures)
 
 -- they pass
-module _ (e : tie.Else2) where
-  abbrev judged : tie.After-bare-code
+module _ (e : tie.Else-code-ne-DONE) where
+  abbrev judged : tie.After-bare_code-code
   judged = e.before
 
   abbrev bare : Bare
   bare = lent (came judged)
 
   passed : first_broken (bare_rules bare (length (start (came judged)).args.memory.now)) ≡ 0
-  passed = sym judged.bare-code.ensures ∙ e.if2.left
+  passed = sym judged.bare_code-code.ensures ∙ e.if-code-ne-DONE.false
 
-ready : tie.Need-take-piece-requires
+ready : tie.Need-take_piece-end-requires
 ready c κs =
     let e = c.before.before in
-    bare-ready (bare e) (length (start (came (judged e))).args.memory.now) (passed e) c.before.begin.ensures
+    bare-ready (bare e) (length (start (came (judged e))).args.memory.now) (passed e) c.begin.ensures
 
 -- the machine has taken the file
-module _ (t : tie.After-take-piece) where
-  abbrev went : tie.Else2
+module _ (t : tie.After-take_piece-end) where
+  abbrev went : tie.Else-code-ne-DONE
   went = t.before.before.before
 
-  ended : machine_of t.take-piece.result ≡ spec.run (bare_setting (bare went)) (spec.begun (length (bare went).file)) (bare went).file
+  ended : machine_of t.take_piece-end.result ≡ spec.run (bare_setting (bare went)) (spec.begun (length (bare went).file)) (bare went).file
   ended =
-      t.take-piece.ensures.0
-      ∙ ap (λ (s : State). spec.run (bare_setting (bare went)) s (bare went).file) t.before.before.begin.ensures
+      t.take_piece-end.ensures.0
+      ∙ ap (λ (s : State). spec.run (bare_setting (bare went)) s (bare went).file) t.begin.ensures
 
-ran : tie.Need-returns-3
+ran : tie.Need-returns
 ran c =
     let w = c.before.before in
     let a = w.before in
-    let o = a.before.before in
+    let o = a.before.before.before in
     let at = o.before.before in
     let t = at.before.before.before in
     let e = went t in
     let k = judged e in
     let s = start (came k) in
     let otherwise = answers.stop_at 27 (length (bare e).file) in
-    let stop = o.stop-or.ensures ∙ (λ j. spec.stop_or (at.stop-at.ensures j) (o.before.halted.ensures j)) in
-    bare-ran (bare e) s.args.memory.now s.args.answer.now (fits k) a.answer-of.result w.write-answer2.ensures.1
-    w.write-answer2.ensures.0 (passed e)
-    (a.answer-of.ensures
-    ∙ ap (λ (x : Stop). spec.answer_of x t.take-piece.result.tally) stop
+    let stop = o.stop_or-stop.ensures ∙ (λ j. spec.stop_or (at.stop_at.ensures j) (o.halted.ensures j)) in
+    bare-ran (bare e) s.args.memory.now s.args.answer.now (fits k) a.answer_of.result w.write_answer-2.ensures.1
+    w.write_answer-2.ensures.0 (passed e)
+    (a.answer_of.ensures
+    ∙ ap (λ (x : Stop). spec.answer_of x t.take_piece-end.result.tally) stop
     ∙ ap (λ (z : State). spec.answer_of (spec.stop_or otherwise (spec.halted z.phase)) z.tally) (ended t))
-    (t.take-piece.ensures.1
+    (t.take_piece-end.ensures.1
     ∙ ap (λ (z : State). applied (bare_setting (bare e)).map s.args.memory.now (spec.trace (bare_setting (bare e)) z (bare e).file))
-    t.before.before.begin.ensures)
+    t.begin.ensures)
 
-pub run-bare-spec : {M : Type 1} → statement M
-run-bare-spec =
+pub run_bare_spec : {M : Type 1} → statement M
+run_bare_spec =
     tie.close
     (tie.spec
     unwritten

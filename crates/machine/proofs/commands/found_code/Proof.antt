@@ -12,12 +12,12 @@ same : (s : tie.Start) {f : Found} → s.args.found ≡ f
     ≡ first_broken (found_rules f s.args.mask s.args.value)
 same s e = ap (λ (f : Found). first_broken (found_rules f s.args.mask s.args.value)) e
 
-pub found-code-spec : {M : Type 1} → statement M
-found-code-spec =
+pub found_code_spec : {M : Type 1} → statement M
+found_code_spec =
     tie.close
     (tie.spec
     (λ c. search rules)
     (λ c. search rules)
-    (λ c. sym (same c.before.before.before.before c.before.before.found.given.1 ∙ simp (eq-eqb _ _ c.if1.true)))
-    (λ c. sym (same c.before.before.before.before c.before.before.found.given.1 ∙ simp (ne_eqb _ _ c.if1.false)))
+    (λ c. sym (same c.before.before c.in-Word.is ∙ simp (eq-eqb _ _ c.if-w-mask.true)))
+    (λ c. sym (same c.before.before c.in-Word.is ∙ simp (ne_eqb _ _ c.if-w-mask.false)))
     (λ c. search rules))

@@ -9,29 +9,29 @@ use Rattle.machine.proofs.CodeLaws.{zero-met, zero-ahead, zero-missing}
 use Rattle.machine.proofs.commands.has_zero.Statement.{statement}
 use Rattle.machine.proofs.commands.has_zero.Tie as tie
 
-abbrev invariant-loop : tie.invariant-loop
+abbrev invariant-loop : tie.invariant-loop-i
 invariant-loop text i₀ i = (i ≤ length text) × (has_zero text ≡ has_zero (drop i text))
 
-abbrev decreases-loop : tie.decreases-loop
+abbrev decreases-loop : tie.decreases-loop-i
 decreases-loop text i₀ i = length text - i
 
-loop-again : tie.Need-loop-preserved invariant-loop decreases-loop
+loop-again : tie.Need-loop-i-preserved invariant-loop decreases-loop
 loop-again c =
     let b = c.before.before.before in
-    (omega arith, b.loop.invariant.1 ∙ zero-ahead b.before.args.text.now b.loop.i (omega arith) c.if2.false)
+    (omega arith, b.loop-i.invariant.1 ∙ zero-ahead b.args.text.now b.loop-i.i (omega arith) c.if-text-i-eq0.false)
 
-returns : tie.Need-returns invariant-loop decreases-loop
+returns : tie.Need-returns-then-text-i invariant-loop decreases-loop
 returns c =
     let b = c.before in
-    sym (b.loop.invariant.1 ∙ zero-missing b.before.args.text.now b.loop.i (omega arith))
+    sym (b.loop-i.invariant.1 ∙ zero-missing b.args.text.now b.loop-i.i (omega arith))
 
-returns-2 : tie.Need-returns-2 invariant-loop decreases-loop
+returns-2 : tie.Need-returns-then-text-i-eq0 invariant-loop decreases-loop
 returns-2 c =
     let b = c.before.before.before in
-    sym (b.loop.invariant.1 ∙ zero-met b.before.args.text.now b.loop.i (omega arith) c.if2.true)
+    sym (b.loop-i.invariant.1 ∙ zero-met b.args.text.now b.loop-i.i (omega arith) c.if-text-i-eq0.true)
 
-pub has-zero-spec : {M : Type 1} → statement M
-has-zero-spec =
+pub has_zero_spec : {M : Type 1} → statement M
+has_zero_spec =
     tie.close
     (tie.spec
     invariant-loop

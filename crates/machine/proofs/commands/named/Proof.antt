@@ -5,36 +5,36 @@ use Rattle.machine.specs.Commands.{named}
 use Rattle.machine.proofs.commands.named.Statement.{statement}
 use Rattle.machine.proofs.commands.named.Tie as tie
 
-unknown : tie.Need-returns-5
+unknown : tie.Need-returns-in_default
 unknown c =
-    let other = c.before.match.rest in
+    let other = c.in_default.in_default-own.rest in
     simp (
       ne_eqb _ _ other.0.0.0.1,
       ne_eqb _ _ other.0.0.1,
       ne_eqb _ _ other.0.1,
       ne_eqb _ _ other.1,
-      lt-ltb _ _ c.if1.true,
+      lt-ltb _ _ c.in_default.if-id-lt60000-own.true,
     )
 
-skipped : tie.Need-returns-6
+skipped : tie.Need-returns-in-60000-to-65535
 skipped c =
-    let other = c.before.match.rest in
+    let other = c.in-60000-to-65535.in_default-own.rest in
     simp (
       ne_eqb _ _ other.0.0.0.1,
       ne_eqb _ _ other.0.0.1,
       ne_eqb _ _ other.0.1,
       ne_eqb _ _ other.1,
-      le-ltb _ _ c.if1.false,
-      le-leb c.before.before.args.id 65535 (omega arith),
+      le-ltb _ _ c.in-60000-to-65535.if-id-lt60000-own.false,
+      le-leb c.args.id 65535 (omega arith),
     )
 
-pub named-spec : {M : Type 1} → statement M
-named-spec =
+pub named_spec : {M : Type 1} → statement M
+named_spec =
     tie.close
     (tie.spec
-    (λ c. sym (ap named c.match.keys1))
-    (λ c. sym (ap named c.match.keys2))
-    (λ c. sym (ap named c.match.keys3))
-    (λ c. sym (ap named c.match.keys4))
+    (λ c. sym (ap named c.in-0.is))
+    (λ c. sym (ap named c.in-1.is))
+    (λ c. sym (ap named c.in-2.is))
+    (λ c. sym (ap named c.in-3.is))
     unknown
     skipped)

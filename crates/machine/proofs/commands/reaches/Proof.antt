@@ -7,11 +7,11 @@ use Rattle.machine.proofs.commands.reaches.Tie as tie
 
 returns : tie.Need-returns
 returns c =
-    let a = c.before.before.args in
-    c.is-reachable.ensures ∙ ap (λ (top : ℕ). reachable top a.a a.n) c.before.reach-limit.ensures
+    let a = c.args in
+    c.is_reachable.ensures ∙ ap (λ (top : ℕ). reachable top a.a a.n) c.reach_limit.ensures
 
-pub reaches-spec : {M : Type 1} → statement M
-reaches-spec =
+pub reaches_spec : {M : Type 1} → statement M
+reaches_spec =
     tie.close
     (tie.spec
     (λ c κs. search rules)

@@ -10,40 +10,40 @@ use Rattle.machine.proofs.CodeLaws.{field, entry-stops, entry-counts}
 use Rattle.machine.proofs.steps.entry_read.Statement.{statement}
 use Rattle.machine.proofs.steps.entry_read.Tie as tie
 
-module _ (k : tie.After-entry-code) where
+module _ (k : tie.After-entry_code-code) where
   abbrev start : tie.Start
   start = k.before.before.before
 
   abbrev state : State
   state = state_of start.args.c start.args.gathered.now
 
-  at : k.before.little8.result ≡ address state.gathered
-  at = field start.args.gathered.now start.args.c.kept 16 8 (omega (arith, start.pre.0.kept)) k.before.little8.ensures
+  at : k.little8-address.result ≡ address state.gathered
+  at = field start.args.gathered.now start.args.c.kept 16 8 (omega (arith, start.requires.0.kept)) k.little8-address.ensures
 
-refuses : tie.Need-returns
+refuses : tie.Need-returns-then-code-ne-DONE
 refuses c =
     let k = c.before.before in
-    entry-stops (start k).args.job (state k) (at k) k.entry-code.ensures c.before.if1.true
+    entry-stops (start k).args.job (state k) (at k) k.entry_code-code.ensures c.if-code-ne-DONE.true
     ∙ ap spec.no_stores (sym (c.refused.ensures _))
 
 room : tie.Need-finished-requires
 room c κs =
-    let s = start c.before.before in
-    (s.pre.1.inside, omega (arith, ap (λ (t : Tally). t.commands) c.with-entry.ensures, s.pre.1.commands))
+    let s = start c.before.before.before in
+    (s.requires.1.inside, omega (arith, ap (λ (t : Tally). t.commands) c.with_entry-tally.ensures, s.requires.1.commands))
 
-counts : tie.Need-returns-2
+counts : tie.Need-returns
 counts c =
     let k = c.before.before.before in
-    let job = (start k).args.job in
-    entry-counts job (state k) (at k) k.entry-code.ensures c.before.before.if1.false
+    let job = (start k.before).args.job in
+    entry-counts job (state k.before) (at k.before) k.entry_code-code.ensures c.if-code-ne-DONE.false
     ∙ ap spec.no_stores (sym (c.finished.ensures _
-    ∙ ap (λ (t : Tally). spec.finished job.length (spec.tallied t (state k))) c.before.with-entry.ensures))
+    ∙ ap (λ (t : Tally). spec.finished job.length (spec.tallied t (state k.before))) c.with_entry-tally.ensures))
 
-pub entry-read-spec : {M : Type 1} → statement M
-entry-read-spec =
+pub entry_read_spec : {M : Type 1} → statement M
+entry_read_spec =
     tie.close
     (tie.spec
-    (λ c κs. omega (arith, c.before.requires.0.room))
+    (λ c κs. omega (arith, c.requires.0.room))
     (λ c κs. search rules)
     (λ c κs. search rules)
     refuses

@@ -6,7 +6,7 @@ use Rattle.machine.proofs.steps.finished.Tie as tie
 
 counted : tie.Need-returns
 unfolding spec.finished
-counted c h = simp add-one at (c.command-begins.ensures h)
+counted c h = simp add-one at (c.command_begins.ensures h)
 
-pub finished-spec : {M : Type 1} → statement M
-finished-spec = tie.close (tie.spec (λ c. search rules) (λ c κs. search rules) counted)
+pub finished_spec : {M : Type 1} → statement M
+finished_spec = tie.close (tie.spec (λ c. search rules) (λ c κs. search rules) counted)

@@ -6,19 +6,19 @@ use Rattle.machine.proofs.CodeLaws.{judged-stops, judged-goes}
 use Rattle.machine.proofs.steps.known_read.Statement.{statement}
 use Rattle.machine.proofs.steps.known_read.Tie as tie
 
-refuses : tie.Need-returns
+refuses : tie.Need-returns-then-code-ne-DONE
 unfolding spec.header_says
 refuses c h =
     let k = c.before.before in
-    judged-stops (state_of k.before.before.args.c h) k.length-code.ensures _ c.before.if1.true
+    judged-stops (state_of k.args.c h) k.length_code-code.ensures _ c.if-code-ne-DONE.true
     ∙ ap spec.no_stores (sym (c.refused.ensures h))
 
-passes : tie.Need-returns-2
+passes : tie.Need-returns
 unfolding spec.header_says
 passes c h =
     let k = c.before.before in
-    judged-goes (state_of k.before.before.args.c h) k.length-code.ensures _ c.before.if1.false
+    judged-goes (state_of k.args.c h) k.length_code-code.ensures _ c.if-code-ne-DONE.false
 
-pub known-read-spec : {M : Type 1} → statement M
-known-read-spec =
+pub known_read_spec : {M : Type 1} → statement M
+known_read_spec =
     tie.close (tie.spec (λ c. search rules) (λ c κs. search rules) (λ c κs. search rules) refuses passes)

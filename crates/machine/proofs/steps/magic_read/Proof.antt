@@ -17,24 +17,24 @@ module _ (k : tie.After-little8) where
   state = state_of start.args.c start.args.gathered.now
 
   magic : little state.gathered ≡ k.little8.result
-  magic = magic-gathered start.args.c start.args.gathered.now (omega (arith, start.pre.0.kept)) k.little8.ensures
+  magic = magic-gathered start.args.c start.args.gathered.now (omega (arith, start.requires.0.kept)) k.little8.ensures
 
-passes : tie.Need-returns
+passes : tie.Need-returns-then-little8-eq-MAGIC
 passes c =
     let k = c.before.before in
-    magic-passes _ (state k) (magic k ∙ c.before.if1.true) ∙ ap spec.no_stores (sym (c.command-begins.ensures _))
+    magic-passes _ (state k) (magic k ∙ c.if-little8-eq-MAGIC.true) ∙ ap spec.no_stores (sym (c.command_begins.ensures _))
 
-differs : tie.Need-returns-2
+differs : tie.Need-returns
 differs c =
     let k = c.before.before in
-    magic-differs _ (state k) (λ e. c.before.if1.false (sym (magic k) ∙ e)) ∙ ap spec.no_stores (sym (c.stopped.ensures _))
+    magic-differs _ (state k) (λ e. c.if-little8-eq-MAGIC.false (sym (magic k) ∙ e)) ∙ ap spec.no_stores (sym (c.stopped.ensures _))
 
-pub magic-read-spec : {M : Type 1} → statement M
-magic-read-spec =
+pub magic_read_spec : {M : Type 1} → statement M
+magic_read_spec =
     tie.close
     (tie.spec
     (λ c κs. search rules)
-    (λ c κs. c.before.before.before.requires.1.inside)
+    (λ c κs. c.requires.1.inside)
     passes
     (λ c κs. search rules)
     differs)

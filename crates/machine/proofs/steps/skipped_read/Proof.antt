@@ -7,30 +7,30 @@ use Rattle.machine.proofs.CodeLaws.{judged-stops, judged-goes}
 use Rattle.machine.proofs.steps.skipped_read.Statement.{statement}
 use Rattle.machine.proofs.steps.skipped_read.Tie as tie
 
-refuses : tie.Need-returns
+refuses : tie.Need-returns-then-code-ne-DONE
 unfolding spec.header_says
 refuses c h =
     let k = c.before.before in
-    judged-stops (state_of k.before.before.args.c h) k.data-code.ensures _ c.before.if1.true
+    judged-stops (state_of k.args.c h) k.data_code-code.ensures _ c.if-code-ne-DONE.true
     ∙ ap spec.no_stores (sym (c.refused.ensures h))
 
 -- no byte is to be skipped
-empty : tie.Need-returns-2
+empty : tie.Need-returns-then-n-eq0
 unfolding spec.header_says
 empty c h =
     let k = c.before.before.before in
-    judged-goes (state_of k.before.before.args.c h) k.data-code.ensures _ c.before.before.if1.false
-    ∙ ap spec.no_stores (cond-eq k.before.before.args.n 0 _ _ c.before.if2.true ∙ sym (c.finished.ensures h))
+    judged-goes (state_of k.args.c h) k.data_code-code.ensures _ c.if-code-ne-DONE.false
+    ∙ ap spec.no_stores (cond-eq k.args.n 0 _ _ c.if-n-eq0.true ∙ sym (c.finished.ensures h))
 
-skips : tie.Need-returns-3
+skips : tie.Need-returns
 unfolding spec.header_says
 skips c h =
     let k = c.before.before.before in
-    judged-goes (state_of k.before.before.args.c h) k.data-code.ensures _ c.before.before.if1.false
-    ∙ ap spec.no_stores (cond-ne k.before.before.args.n 0 _ _ c.before.if2.false)
+    judged-goes (state_of k.args.c h) k.data_code-code.ensures _ c.if-code-ne-DONE.false
+    ∙ ap spec.no_stores (cond-ne k.args.n 0 _ _ c.if-n-eq0.false)
 
-pub skipped-read-spec : {M : Type 1} → statement M
-skipped-read-spec =
+pub skipped_read_spec : {M : Type 1} → statement M
+skipped_read_spec =
     tie.close
     (tie.spec
     (λ c. search rules)

@@ -7,9 +7,9 @@ use Rattle.machine.specs.declared.Phase.TheVariants.{Stopped}
 use Rattle.machine.proofs.steps.stopped.Statement.{statement}
 use Rattle.machine.proofs.steps.stopped.Tie as tie
 
-pub stopped-spec : {M : Type 1} → statement M
-stopped-spec =
+pub stopped_spec : {M : Type 1} → statement M
+stopped_spec =
     tie.close
     (tie.spec
     (λ c κs. search rules)
-    (λ c h. ap (λ (stop : Stop). in_phase (Stopped stop) (state_of c.before.before.args.c h)) c.before.stop-at.ensures))
+    (λ c h. ap (λ (stop : Stop). in_phase (Stopped stop) (state_of c.args.c h)) c.stop_at.ensures))

@@ -5,11 +5,11 @@ use Rattle.machine.specs.declared.Phase.{Phase}
 use Rattle.machine.proofs.taking.is_over.Statement.{statement}
 use Rattle.machine.proofs.taking.is_over.Tie as tie
 
-header : tie.Need-returns-2
-header c = sym (ap (λ (p : Phase). is_over p c.before.before.before.args.c.kept) c.before.enum-told2.given.1)
+header : tie.Need-returns-in-Header
+header c = sym (ap (λ (p : Phase). is_over p c.args.c.kept) c.in-Header.is)
 
-pub is-over-spec : {M : Type 1} → statement M
-is-over-spec =
+pub is_over_spec : {M : Type 1} → statement M
+is_over_spec =
     tie.close
     (tie.spec
     (λ c. search rules)

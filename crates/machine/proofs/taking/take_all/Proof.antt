@@ -18,11 +18,11 @@ use Rattle.machine.proofs.TakingLaws.{
 use Rattle.machine.proofs.taking.take_all.Statement.{statement}
 use Rattle.machine.proofs.taking.take_all.Tie as tie
 
-abbrev invariant-loop : tie.invariant-loop
+abbrev invariant-loop : tie.invariant-loop-at
 invariant-loop gathered₀ piece job map table memory₀ s₀ at₀ gathered memory s at =
     Going job map table piece gathered₀ memory₀ s₀ at₀ gathered memory s at
 
-abbrev decreases-loop : tie.decreases-loop
+abbrev decreases-loop : tie.decreases-loop-at
 decreases-loop gathered₀ piece job map table memory₀ s₀ at₀ gathered memory s at = length piece - at
 
 abbrev invariant-piece : tie.invariant-piece
@@ -32,7 +32,7 @@ abbrev decreases-piece : tie.decreases-piece
 decreases-piece = decreases-loop
 
 -- where the function began
-abbrev start : tie.After-slice-known2 invariant-loop decreases-loop invariant-piece decreases-piece → tie.Start invariant-loop decreases-loop invariant-piece decreases-piece
+abbrev start : tie.After-slice_known-2-1 invariant-loop decreases-loop invariant-piece decreases-piece → tie.Start invariant-loop decreases-loop invariant-piece decreases-piece
 start k = let shared = k.before.before in shared.before.before.before
 
 begins : tie.Need-piece-init invariant-loop decreases-loop invariant-piece decreases-piece
@@ -47,31 +47,31 @@ module _ (p : tie.At-piece invariant-loop decreases-loop invariant-piece decreas
   setting = setting_of came.args.job came.args.map.now came.args.table.now
 
 -- at the head of the inner loop: what it and the outer one have done
-module _ (l : tie.At-loop invariant-loop decreases-loop invariant-piece decreases-piece) where
+module _ (l : tie.At-loop-at invariant-loop decreases-loop invariant-piece decreases-piece) where
   abbrev outer : tie.At-piece invariant-loop decreases-loop invariant-piece decreases-piece
   outer = l.before.before
 
   gone : Going (came outer).args.job (came outer).args.map.now (came outer).args.table.now (came outer).args.piece.now
       (came outer).args.gathered.now (came outer).args.memory.now (came outer).args.c 0
-      l.loop.gathered l.loop.memory l.loop.s l.loop.at
-  gone = going-over outer.piece.inv l.loop.inv
+      l.loop-at.gathered l.loop-at.memory l.loop-at.s l.loop-at.at
+  gone = going-over outer.piece.invariant l.loop-at.invariant
 
-ready : tie.Need-take-requires invariant-loop decreases-loop invariant-piece decreases-piece
+ready : tie.Need-take-t-requires invariant-loop decreases-loop invariant-piece decreases-piece
 ready c κs =
     let t = c.before.before.before in
-    let l = t.before.loop in
+    let l = t.loop-at in
     let piece = (came (outer t.before)).args.piece.now in (
-      omega (arith, ap length (rest_of piece l.at), length-drop l.at piece, t.loop-test.false),
+      omega (arith, ap length (rest_of piece l.at), length-drop l.at piece, t.if-piece-at.false),
       l.invariant.long,
       l.invariant.ready,
     )
 
 -- after some bytes are taken
-module _ (u : tie.After-take invariant-loop decreases-loop invariant-piece decreases-piece) where
-  abbrev tested : tie.In-loop invariant-loop decreases-loop invariant-piece decreases-piece
+module _ (u : tie.After-take-t invariant-loop decreases-loop invariant-piece decreases-piece) where
+  abbrev tested : tie.Else-piece-at invariant-loop decreases-loop invariant-piece decreases-piece
   tested = u.before.before.before.before
 
-  abbrev head : tie.At-loop invariant-loop decreases-loop invariant-piece decreases-piece
+  abbrev head : tie.At-loop-at invariant-loop decreases-loop invariant-piece decreases-piece
   head = tested.before
 
   abbrev begun : tie.Start invariant-loop decreases-loop invariant-piece decreases-piece
@@ -79,38 +79,38 @@ module _ (u : tie.After-take invariant-loop decreases-loop invariant-piece decre
 
   on : Going begun.args.job begun.args.map.now begun.args.table.now begun.args.piece.now
       (outer head).piece.gathered (outer head).piece.memory (outer head).piece.s (outer head).piece.at
-      u.take.last.1.0 u.take.last.1.1.1.1.1.1.0 u.take.result.control (head.loop.at + u.take.result.used)
+      u.take-t.new.gathered u.take-t.new.memory u.take-t.result.control (head.loop-at.at + u.take-t.result.used)
   on =
-      going_on head.loop.inv (rest_of begun.args.piece.now head.loop.at) u.take.ensures u.take.kept.1.0
-      u.take.kept.1.1.1.1.1.1.0
+      going_on head.loop-at.invariant (rest_of begun.args.piece.now head.loop-at.at) u.take-t.ensures u.take-t.auto.gathered
+      u.take-t.auto.memory
 
 -- the state is that after them
-abbrev taken : tie.After-struct-known invariant-loop decreases-loop invariant-piece decreases-piece → tie.After-take invariant-loop decreases-loop invariant-piece decreases-piece
+abbrev taken : tie.After-struct_known-1 invariant-loop decreases-loop invariant-piece decreases-piece → tie.After-take-t invariant-loop decreases-loop invariant-piece decreases-piece
 taken k = let memory = k.before.before.before in memory.before.before.before
 
-sum : tie.Need-overflow-add-at invariant-loop decreases-loop invariant-piece decreases-piece
-sum c = let u = taken c in omega (arith, (on u).within, (begun u).good)
+sum : tie.Need-overflow_add-at invariant-loop decreases-loop invariant-piece decreases-piece
+sum c = let u = taken c in omega (arith, (on u).within, (begun u).well_formed)
 
 next-less : tie.Need-piece-smaller invariant-loop decreases-loop invariant-piece decreases-piece
 next-less c =
     let u = taken c.before.before in
-    omega (arith, (on u).within, u.take.ensures.progress, (head u).loop.inv.rises)
+    omega (arith, (on u).within, u.take-t.ensures.progress, (head u).loop-at.invariant.rises)
 
 next : tie.Need-piece-preserved invariant-loop decreases-loop invariant-piece decreases-piece
-next c = let u = taken c.before.before in going-over (outer (head u)).piece.inv (on u)
+next c = let u = taken c.before.before in going-over (outer (head u)).piece.invariant (on u)
 
-on-less : tie.Need-loop-smaller invariant-loop decreases-loop invariant-piece decreases-piece
-on-less c = let u = taken c.before.before in omega (arith, (on u).within, u.take.ensures.progress)
+on-less : tie.Need-loop-at-smaller invariant-loop decreases-loop invariant-piece decreases-piece
+on-less c = let u = taken c.before.before in omega (arith, (on u).within, u.take-t.ensures.progress)
 
-stopped : tie.Need-returns invariant-loop decreases-loop invariant-piece decreases-piece
+stopped : tie.Need-returns-in-Stopped invariant-loop decreases-loop invariant-piece decreases-piece
 stopped c =
-    let p = c.before.before in
-    left-stopped (setting p) _ (came p).args.piece.now p.piece.invariant.left c.enum_told.given.1
+    let p = c.before in
+    left-stopped (setting p) _ (came p).args.piece.now p.piece.invariant.left c.in-Stopped.is
 
-used-up : tie.Need-returns-2 invariant-loop decreases-loop invariant-piece decreases-piece
+used-up : tie.Need-returns-then-piece-at invariant-loop decreases-loop invariant-piece decreases-piece
 used-up c =
     let l = c.before in
-    left-none (setting (outer l)) _ (came (outer l)).args.piece.now (gone l).left c.loop-test.true
+    left-none (setting (outer l)) _ (came (outer l)).args.piece.now (gone l).left c.if-piece-at.true
 
 pub take_all_spec : {M : Type 1} → statement M
 take_all_spec =
@@ -122,7 +122,7 @@ take_all_spec =
     decreases-piece
     begins
     (λ c. search rules)
-    (λ c. going-inner c.before.piece.invariant)
+    (λ c. going-inner c.piece.invariant)
     (λ c. search rules)
     (λ c. search rules)
     (λ c. search rules)
@@ -133,8 +133,8 @@ take_all_spec =
     next
     on-less
     (λ c. on (taken c.before.before))
-    (λ c. c.before.before.piece.invariant.same-gathered)
-    (λ c. c.before.before.piece.invariant.same_memory)
+    (λ c. c.piece.invariant.same-gathered)
+    (λ c. c.piece.invariant.same_memory)
     stopped
     (λ c. (gone c.before).same-gathered)
     (λ c. (gone c.before).same_memory)

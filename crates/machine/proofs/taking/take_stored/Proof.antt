@@ -15,60 +15,60 @@ use Rattle.machine.proofs.TakingLaws.{ram-fewer}
 use Rattle.machine.proofs.taking.take_stored.Statement.{statement}
 use Rattle.machine.proofs.taking.take_stored.Tie as tie
 
-module _ (f : tie.After-fewer) where
+module _ (f : tie.After-fewer-used) where
   abbrev start : tie.Start
   start = f.before.before.before.before
 
-  inside : ram (regions start.args.map.now) start.args.address (length (take f.fewer.result start.args.rest.now)) ≡ true
+  inside : ram (regions start.args.map.now) start.args.address (length (take f.fewer-used.result start.args.rest.now)) ≡ true
   inside =
       ram-fewer (regions start.args.map.now) start.args.address _ start.args.left
-      (omega (arith, length-take f.fewer.result start.args.rest.now, f.fewer.ensures)) start.pre.2
+      (omega (arith, length-take f.fewer-used.result start.args.rest.now, f.fewer-used.ensures)) start.requires.2
 
-module _ (k : tie.After-slice-known2) where
+module _ (k : tie.After-slice_known-2-1) where
   abbrev stored : tie.After-store
   stored = k.before.before
 
-  abbrev many : tie.After-fewer
-  many = stored.before.before.before
+  abbrev many : tie.After-fewer-used
+  many = stored.before.before
 
   abbrev came : tie.Start
   came = start many
 
-room : tie.Need-with-stored-requires
+room : tie.Need-with_stored-tally-requires
 room c κs =
-    let p = (came c).requires.0 in
-    omega (arith, (many c).fewer.ensures, p.counts.stored, p.short, p.ahead)
+    let p = (came c.before).requires.0 in
+    omega (arith, (many c.before).fewer-used.ensures, p.counts.stored, p.short, p.ahead)
 
-ahead : tie.Need-data-used-requires
+ahead : tie.Need-data_used-control-requires
 ahead c κs =
     let k = c.before in
-    let p = (came k).requires.0 in (
-      omega (arith, (many k).fewer.ensures, p.ahead),
-      omega (arith, ap (λ (t : Tally). t.commands) c.with-stored.ensures, p.counts.commands),
+    let p = (came k.before).requires.0 in (
+      omega (arith, (many k.before).fewer-used.ensures, p.ahead),
+      omega (arith, ap (λ (t : Tally). t.commands) c.with_stored-tally.ensures, p.counts.commands),
     )
 
 stores : tie.Need-returns
 stores c =
     let k = c.before.before in
-    let a = (came k).args in
-    let n = (many k).fewer.result in (
-      (stored k).store.ensures,
-      (many k).fewer.ensures,
-      (λ h. c.data-used.ensures h
+    let a = (came k.before).args in
+    let n = (many k.before).fewer-used.result in (
+      c.store.ensures,
+      c.fewer-used.ensures,
+      (λ h. c.data_used-control.ensures h
           ∙ ap (λ (t : Tally). data_used a.length n a.left (Storing (a.address + n) (a.left - n)) (tallied t (state_of a.c h)))
-          c.before.with-stored.ensures),
+          c.with_stored-tally.ensures),
     )
 
-pub take-stored-spec : {M : Type 1} → statement M
-take-stored-spec =
+pub take_stored_spec : {M : Type 1} → statement M
+take_stored_spec =
     tie.close
     (tie.spec
     (λ c κs. search rules)
-    (λ c. sym (length-take-le _ _ (omega (arith, c.before.fewer.ensures))))
-    (λ c κs. let f = c.before.before in ((start f).requires.1, inside f))
+    (λ c. sym (length-take-le _ _ (omega (arith, c.fewer-used.ensures))))
+    (λ c κs. let f = c.before in ((start f).requires.1, inside f))
     room
-    (λ c. omega (arith, (many c.before).fewer.ensures, (came c.before).pre.0.below))
-    (λ c. omega (arith, (many c.before).fewer.ensures))
+    (λ c. omega (arith, c.fewer-used.ensures, c.requires.0.below))
+    (λ c. omega (arith, c.fewer-used.ensures))
     ahead
     (λ c. search rules)
     stores)
