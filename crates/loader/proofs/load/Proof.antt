@@ -5,7 +5,7 @@ use Rattle.loader.proofs.CodeLaws.{load-written}
 use Rattle.loader.proofs.load.Statement.{statement}
 use Rattle.loader.proofs.load.Tie as tie
 
-abbrev start : tie.After-slice-known2 → tie.Start
+abbrev start : tie.After-slice_known-2-1 → tie.Start
 start k =
     let i = k.before.before.before in
     i.before.before.before
@@ -19,23 +19,23 @@ offered s =
       map = a.map.now;
       table = a.cpuid.now;
       mode = a.mode;
-      signature = a.signature-length;
+      signature = a.signature_length;
     }
 
-returns : tie.Need-returns
+returns : tie.Need-returns-then-answer-ne-RECORD_LENGTH
 returns c =
     let s = start c.before in
-    load-unwritten (offered s) s.args.memory.now s.args.answer.now c.if1.true
+    load-unwritten (offered s) s.args.memory.now s.args.answer.now c.if-answer-ne-RECORD_LENGTH.true
 
-returns-2 : tie.Need-returns-2
+returns-2 : tie.Need-returns
 returns-2 c =
     let w = c.before.before in
     let l = w.before.before.before.before in
     let k = l.before.before in
     let s = start k.before in
-    load-written (offered s) s.args.memory.now s.args.answer.now k.if1.false
-    (record { answer = l.load-answer.ensures.answer; memory = l.load-answer.ensures.memory }) w.write-answer.ensures.0
-    w.write-answer.ensures.1
+    load-written (offered s) s.args.memory.now s.args.answer.now k.if-answer-ne-RECORD_LENGTH.false
+    (record { answer = l.load_answer-a.ensures.answer; memory = l.load_answer-a.ensures.memory }) w.write_answer.ensures.0
+    w.write_answer.ensures.1
 
 pub load_spec : {M : Type 1} → statement M
 load_spec =

@@ -16,7 +16,7 @@ use Rattle.loader.proofs.load_answer.Statement.{statement}
 use Rattle.loader.proofs.load_answer.Tie as tie
 
 -- what the code was given, and its rules in two lists
-module _ (c : tie.After-early-code) where
+module _ (c : tie.After-early_code-early) where
   abbrev start : tie.Start
   start =
       let i = c.before.before.before in
@@ -44,58 +44,59 @@ module _ (c : tie.After-early-code) where
   late = image_rules o.image o.approved o.signature
 
 -- where the image is judged, by all of them
-module _ (c : tie.After-judged) where
-  abbrev known : tie.After-early-code
+module _ (c : tie.After-judged-j) where
+  abbrev known : tie.After-early_code-early
   known = c.before.before
 
-  judged-all : c.judged.result.code ≡ first_broken (load_rules (o known) (length (before known)))
+  judged-all : c.judged-j.result.code ≡ first_broken (load_rules (o known) (length (before known)))
   judged-all =
-      c.judged.ensures.code
-      ∙ sym (goes_on (early known) (late known) known.early-code.result tt known.early-code.ensures c.before.if1.false)
+      c.judged-j.ensures.code
+      ∙ sym (goes_on (early known) (late known) known.early_code-early.result tt known.early_code-early.ensures c.before.if-early-ne-DONE.false)
 
-returns : tie.Need-returns
+returns : tie.Need-returns-then-early-ne-DONE
 returns c =
     let e = c.before.before in
-    refusal-gives (o e) (before e) (refuses (early e) (late e) e.early-code.result tt e.early-code.ensures c.before.if1.true)
-    c.before.if1.true c.refused.result c.refused.ensures
+    refusal-gives (o e) (before e) (refuses (early e) (late e) e.early_code-early.result tt e.early_code-early.ensures c.before.if-early-ne-DONE.true)
+    c.before.if-early-ne-DONE.true c.refused.result c.refused.ensures
 
-returns-2 : tie.Need-returns-2
+returns-2 : tie.Need-returns-then-j-ne-DONE
 returns-2 c =
     let t = c.before in
     let j = t.before.before in
-    refusal-gives (o (known j)) (before (known j)) (judged-all j) t.if2.true c.refused2.result c.refused2.ensures
+    refusal-gives (o (known j)) (before (known j)) (judged-all j) t.if-j-ne-DONE.true c.refused-then-j-ne-DONE.result c.refused-then-j-ne-DONE.ensures
 
 -- where it passed
-module _ (c : tie.Else2) where
-  abbrev passing : tie.After-judged
+module _ (c : tie.Else-j-ne-DONE) where
+  abbrev passing : tie.After-judged-j
   passing = c.before.before
 
   none : first_broken (load_rules (o (known passing)) (length (before (known passing)))) ≡ 0
-  none = sym (judged-all passing) ∙ c.if2.false
+  none = sym (judged-all passing) ∙ c.if-j-ne-DONE.false
 
-  stream : stream_of passing.judged.result.stream ≡ (header (o (known passing))).stream
-  stream = judged-stream (late (known passing)) (o (known passing)).approved passing.judged.ensures c.if2.false
+  stream : stream_of passing.judged-j.result.stream ≡ (header (o (known passing))).stream
+  stream = judged-stream (late (known passing)) (o (known passing)).approved passing.judged-j.ensures c.if-j-ne-DONE.false
 
-add-first : tie.Need-overflow-add-first
+add-first : tie.Need-overflow_add-first
 add-first c =
     let e = known (passing c) in
     omega (arith, first_fits (o e) (before e) (none c))
 
-load-blocks-requires : tie.Need-load-blocks-requires
+load-blocks-requires : tie.Need-load_blocks-requires
 load-blocks-requires c κs =
-    let e = known (passing c.before) in
-    loadable (o e) (before e) (none c.before) (stream c.before)
-
-returns-3 : tie.Need-returns-3
-returns-3 c =
-    let l = c.before.before in
-    let p = l.before.before in
+    let p = c.before.before in
     let e = known (passing p) in
-    blocks-give (o e) (before e) (none p) l.load-blocks.result _
-    (record { answer = l.load-blocks.ensures.answer; memory = l.load-blocks.ensures.memory })
+    loadable (o e) (before e) (none p) (stream p)
 
-pub load-answer-spec : {M : Type 1} → statement M
-load-answer-spec =
+returns-3 : tie.Need-returns
+returns-3 c =
+    let l = c in
+    let p = c.before.before.before.before.before in
+    let e = known (passing p) in
+    blocks-give (o e) (before e) (none p) l.load_blocks.result _
+    (record { answer = l.load_blocks.ensures.answer; memory = l.load_blocks.ensures.memory })
+
+pub load_answer_spec : {M : Type 1} → statement M
+load_answer_spec =
     tie.close
     (tie.spec
     (λ c κs. search rules)
