@@ -3,15 +3,15 @@ use Rattle.machine.proofs.TakingLaws.{ready-again}
 use Rattle.pieces.proofs.cuts.piece.Statement.{statement}
 use Rattle.pieces.proofs.cuts.piece.Tie as tie
 
-again : tie.Need-returns-3
+again : tie.Need-returns
 again c =
     let t = c.before.before in
     let e = t.before.before.before.before in
     let s = e.before.before.before.before in
-    ready-again s.before.requires _ t.take-piece.ensures.0
+    ready-again s.requires _ t.take_piece.ensures.0
 
-pub piece-spec : {M : Type 1} → statement M
-piece-spec =
+pub piece_spec : {M : Type 1} → statement M
+piece_spec =
     tie.close
     (tie.spec
     (λ c. search rules)
