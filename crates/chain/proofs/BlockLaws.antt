@@ -16,7 +16,7 @@ use Rattle.octets.proofs.TestLaws.{same-eq, eq-same}
 use Rattle.answers.specs.Rules.{first_broken}
 use Rattle.answers.proofs.RuleLaws.{zero-all-hold, all-hold-zero}
 use Rattle.chain.specs.Hashsum.{hashsum}
-use Rattle.chain.specs.Blocks.{hash_field, padding_of, block_rules, block_code, expected, file_bytes, proved, file_up_to}
+use Rattle.chain.specs.Blocks.{hash_field, padding_of, block_rules, block_code, file_bytes, proved, file_up_to}
 use Rattle.chain.specs.Header.{Header, Stream, file_length}
 use Rattle.chain.proofs.HeaderLaws.{block_data}
 

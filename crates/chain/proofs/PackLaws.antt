@@ -17,7 +17,7 @@ use Rattle.chain.specs.Hashsum.{hashsum, sum_length, any_unknown}
 use Rattle.chain.specs.Header.{image_length}
 use Rattle.chain.specs.Pack.{Order, room, blocks, padding, pack_rules, chunk, link, blocks_from, packed_header, image}
 use Rattle.chain.proofs.HashsumLaws.{length-hashsum}
-use Rattle.chain.proofs.HeaderLaws.{Allowed, allowed, length-header}
+use Rattle.chain.proofs.HeaderLaws.{Allowed, length-header}
 
 -- ---- what pack accepts
 

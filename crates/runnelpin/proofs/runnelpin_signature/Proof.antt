@@ -22,21 +22,21 @@ told image approved x start field s f = (
   (λ i. part image (s i) (length (f i))) ∙ field-part image approved x,
 )
 
-returns : tie.Need-returns
+returns : tie.Need-returns-then-length-eq0
 returns c =
     let b = c.before in
     let a = b.before.before.before.args in
-    let e = b.signature-field.ensures.0 in
-    told a.image.now a.header.now a.signature-length 0 b.signature-field.result.now
-    (sym (empty-starts a.image.now a.header.now a.signature-length (sym (ap length e) ∙ c.if1.true))) e
+    let e = b.signature_field-field.ensures.0 in
+    told a.image.now a.header.now a.signature_length 0 b.signature_field-field.result.now
+    (sym (empty-starts a.image.now a.header.now a.signature_length (sym (ap length e) ∙ c.if-length-eq0.true))) e
 
-returns-2 : tie.Need-returns-2
+returns-2 : tie.Need-returns
 returns-2 c =
     let b = c.before in
     let a = b.before.before.before.args in
-    let e = b.signature-field.ensures.0 in
-    told a.image.now a.header.now a.signature-length (length a.header.now) b.signature-field.result.now
-    (sym (filled-starts a.image.now a.header.now a.signature-length (λ z. c.if1.false (ap length e ∙ z)))) e
+    let e = b.signature_field-field.ensures.0 in
+    told a.image.now a.header.now a.signature_length (length a.header.now) b.signature_field-field.result.now
+    (sym (filled-starts a.image.now a.header.now a.signature_length (λ z. c.if-length-eq0.false (ap length e ∙ z)))) e
 
-pub runnelpin-signature-spec : {M : Type 1} → statement M
-runnelpin-signature-spec = tie.close (tie.spec (λ c κs. search rules) returns returns-2)
+pub runnelpin_signature_spec : {M : Type 1} → statement M
+runnelpin_signature_spec = tie.close (tie.spec (λ c κs. search rules) returns returns-2)

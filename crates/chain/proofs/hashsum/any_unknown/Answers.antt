@@ -1,4 +1,4 @@
-use Rattle.std.proofs.Common.{◌≡◌, sym, ap, ◌∙◌, length, drop, arith}
+use Rattle.std.proofs.Common.{◌≡◌, sym, ap, ◌∙◌, length, arith}
 use lib.ListN.{drop_of_length-le}
 use Rattle.chain.specs.Hashsum.{any_unknown}
 use Rattle.chain.proofs.HashingLaws.{skips-none, skips-known, meets-unknown}

@@ -1,5 +1,5 @@
 -- What is left to judge decides.
-use Rattle.std.proofs.Common.{◌≡◌, ◌≤◌, drop}
+use Rattle.std.proofs.Common.{◌≡◌, drop}
 use Rattle.chain.specs.Hashsum.{any_unknown}
 use Rattle.chain.proofs.hashsum.any_unknown.Given as goal
 
