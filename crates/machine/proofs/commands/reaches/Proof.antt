@@ -5,15 +5,10 @@ use Rattle.board.specs.Reach.{reachable}
 use Rattle.machine.proofs.commands.reaches.Statement.{statement}
 use Rattle.machine.proofs.commands.reaches.Tie as tie
 
-returns : tie.Need-returns
-returns c =
-    let a = c.args in
-    c.is_reachable.ensures ∙ ap (λ (top : ℕ). reachable top a.a a.n) c.reach_limit.ensures
-
 pub reaches_spec : {M : Type 1} → statement M
 reaches_spec =
     tie.close
     (tie.spec
     (λ c κs. search rules)
     (λ c κs. search rules)
-    returns)
+    (λ c. c.is_reachable.ensures ∙ ap (λ (top : ℕ). reachable top c.args.a c.args.n) c.reach_limit.ensures))
