@@ -1,3 +1,4 @@
+use mathlib.Core.Logic.{◌≢◌}
 use mathlib.Core.Path.{◌≡◌, sym, ◌∙◌}
 use mathlib.Core.List.{List}
 use Prim.Native.Nat.{ℕ}
@@ -59,42 +60,15 @@ returns c =
     refusal-gives (o e) (before e) (refuses (early e) (late e) e.early_code-early.result tt e.early_code-early.ensures c.before.if-early-ne-DONE.true)
     c.before.if-early-ne-DONE.true c.refused.result c.refused.ensures
 
-returns-2 : tie.Need-returns-then-j-ne-DONE
-returns-2 c =
-    let t = c.before in
-    let j = t.before.before in
-    refusal-gives (o (known j)) (before (known j)) (judged-all j) t.if-j-ne-DONE.true c.refused-then-j-ne-DONE.result c.refused-then-j-ne-DONE.ensures
-
 -- where it passed
-module _ (c : tie.Else-j-ne-DONE) where
-  abbrev passing : tie.After-judged-j
-  passing = c.before.before
+module _ (c : tie.After-judged-j) (zero : c.judged-j.result.code ≡ 0) where
+  none : first_broken (load_rules (o (known c)) (length (before (known c)))) ≡ 0
+  none = sym (judged-all c) ∙ zero
 
-  none : first_broken (load_rules (o (known passing)) (length (before (known passing)))) ≡ 0
-  none = sym (judged-all passing) ∙ c.if-j-ne-DONE.false
+  stream : stream_of c.judged-j.result.stream ≡ (header (o (known c))).stream
+  stream = judged-stream (late (known c)) (o (known c)).approved c.judged-j.ensures zero
 
-  stream : stream_of passing.judged-j.result.stream ≡ (header (o (known passing))).stream
-  stream = judged-stream (late (known passing)) (o (known passing)).approved passing.judged-j.ensures c.if-j-ne-DONE.false
-
-add-first : tie.Need-overflow_add-first
-add-first c =
-    let e = known (passing c) in
-    omega (arith, first_fits (o e) (before e) (none c))
-
-load-blocks-requires : tie.Need-load_blocks-requires
-load-blocks-requires c κs =
-    let p = c.before.before in
-    let e = known (passing p) in
-    loadable (o e) (before e) (none p) (stream p)
-
-returns-3 : tie.Need-returns
-returns-3 c =
-    let l = c in
-    let p = c.before.before.before.before.before in
-    let e = known (passing p) in
-    blocks-give (o e) (before e) (none p) l.load_blocks.result _
-    (record { answer = l.load_blocks.ensures.answer; memory = l.load_blocks.ensures.memory })
-
+-- What stands behind the second test is found by its place, not by that test's name.
 pub load_answer_spec : {M : Type 1} → statement M
 load_answer_spec =
     tie.close
@@ -104,8 +78,17 @@ load_answer_spec =
     returns
     (λ c κs. search rules)
     (λ c κs. search rules)
-    returns-2
-    add-first
-    load-blocks-requires
+    (λ c. let j = c.before.before.before in
+    let z : j.judged-j.result.code ≢ 0 = search rules in
+    refusal-gives (o (known j)) (before (known j)) (judged-all j) z _ (search rules))
+    (λ c. let j = c.before.before in
+    let z : j.judged-j.result.code ≡ 0 = search rules in
+    omega (arith, first_fits (o (known j)) (before (known j)) (none j z)))
+    (λ c κs. let j = c.before.before.before.before in
+    let z : j.judged-j.result.code ≡ 0 = search rules in
+    loadable (o (known j)) (before (known j)) (none j z) (stream j z))
     (λ c. search rules)
-    returns-3)
+    (λ c. let j = c.before.before.before.before.before.before.before in
+    let z : j.judged-j.result.code ≡ 0 = search rules in
+    blocks-give (o (known j)) (before (known j)) (none j z) c.load_blocks.result _
+    (record { answer = c.load_blocks.ensures.answer; memory = c.load_blocks.ensures.memory })))
