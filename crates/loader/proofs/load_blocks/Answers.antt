@@ -37,7 +37,7 @@ overflow_add-k c =
     omega arith
 
 pub shape_of-memory-then-code-ne-DONE : goal.shape_of-memory-then-code-ne-DONE
-shape_of-memory-then-code-ne-DONE c = same-room c.loop-stop.invariant.1
+shape_of-memory-then-code-ne-DONE c = omega (arith, same-room c.loop-stop.invariant.1)
 
 pub returns-then-code-ne-DONE : goal.returns-then-code-ne-DONE
 returns-then-code-ne-DONE c =
