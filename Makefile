@@ -22,15 +22,15 @@ test: ## everything from scratch: proofs, must-fail edits, Rust tests, compariso
 	@tools/test
 
 prove: ## prove what has changed since it was last proved, and run the Rattle programs
-	@rt check
+	@rt all test
 
 edits: ## every edit that makes the code wrong, the gate's and edits/; SINCE=REVISION: of the crates changed since
 	@SINCE='$(SINCE)' tools/edits $(EDITS)
 
 archives: build/librunnelpin.a ## build/libNAME.a of each crate that exports calls, for C or Rust to link
 
-# One run makes them all. A folder is newer when a file in it came or went.
-build/librunnelpin.a: crates.txt $(shell find crates)
+# One run makes them all. A folder is newer when a file in it came or went; crates/NAME is, whenever rt makes its out/.
+build/librunnelpin.a: crates.txt $(shell find crates/*/src crates/*/specs crates/*/proofs)
 	@tools/archives
 
 tool: build/runnelpin ## build/runnelpin, the command-line tool; 'man ./docs/runnelpin.1' is its manual
@@ -61,11 +61,11 @@ uninstall: ## remove what install has put there, given the same PREFIX and DESTD
 deb: tool ## build/runnelpin_VERSION_amd64.deb, a Debian package
 	@VERSION='$(VERSION)' tools/package
 
-clean: ## remove build/, but not the proofs in target/, which take minutes to make again
+clean: ## remove build/, but not the proofs in crates/NAME/out/, which take minutes to make again
 	@rm -rf build
 
 distclean: clean ## remove the proofs too
-	@rm -rf target
+	@rm -rf crates/*/out
 
 stub: tool ## the example boot stub, built and run, and the stack that each call needs
 	@tools/stub && tools/stack
