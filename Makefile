@@ -18,7 +18,7 @@ help: ## print this
 demo: ## the main job step by step, from the build to a refused image
 	@tools/demo
 
-test: ## everything from scratch: proofs, must-fail edits, Rust tests, comparisons; ends in 'N passed, M failed'
+test: ## all proofs, the gate's must-fail edits, Rust tests, comparisons; ends in 'N passed, M failed'
 	@tools/test
 
 prove: ## prove what has changed since it was last proved, and run the Rattle programs
