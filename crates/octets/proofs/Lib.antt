@@ -1,3 +1,4 @@
+pub mod ByteLaws
 pub mod NumberLaws
 pub mod PartLaws
 pub mod TestLaws
