@@ -1,5 +1,5 @@
 -- Laws of parts of byte lists, and of what a loop that stores byte by byte leaves.
-use mathlib.Core.Path.{◌≡◌, sym, ap, ap₂, ◌∙◌}
+use mathlib.Core.Path.{◌≡◌, refl, sym, ap, ap₂, ◌∙◌}
 use mathlib.Core.List.{List, [], ◌∷◌, ◌++◌, append_assoc}
 use Prim.Native.Nat.{ℕ, zero, suc, ◌+◌, ◌-◌, ◌≤◌, ◌<◌}
 use native.Mathlib.Nat.{le_antisymm, add-sub_of_le, zero-add, suc-add, add_assoc}
@@ -21,6 +21,17 @@ part-add s at m n = take-add m n (drop at s) ∙ ap (λ (t : List ℕ). part s a
 
 pub part-one : (s : List ℕ) (at : ℕ) → at < length s → part s at 1 ≡ get_or s at 0 ∷ []
 part-one s at h = ap (λ (t : List ℕ). take 1 t) (drop-cons s at 0 h)
+
+-- the n elements from offset at on, one by one
+abbrev pub items : List ℕ → ℕ → ℕ → List ℕ
+items s at zero = []
+items s at (suc n) = get_or s at 0 ∷ items s (suc at) n
+
+pub part_items : (s : List ℕ) (at n : ℕ) → at + n ≤ length s → part s at n ≡ items s at n
+part_items s at zero h = refl
+part_items s at (suc n) h =
+    ap (λ (t : List ℕ). take (suc n) t) (drop-cons s at 0 (omega arith))
+    ∙ ap (λ (t : List ℕ). get_or s at 0 ∷ t) (part_items s (suc at) n (omega arith))
 
 -- a part, cut off at its end first
 pub part-of-take : (s : List ℕ) (at n : ℕ) → part s at n ≡ drop at (take (at + n) s)

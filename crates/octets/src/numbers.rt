@@ -1,3 +1,5 @@
+#![tactic(auto, using(crate::proofs::PartLaws::part_items), unfolding(crate::specs::Numbers::little, crate::specs::Numbers::little_bytes))]
+
 ghost use Rattle.std.specs.Prelude.{◌≡◌, ℕ, ◌+◌, ◌≤◌, length};
 ghost use Rattle.octets.specs.Numbers.{little, little_bytes, big, big_bytes};
 ghost use Rattle.octets.specs.Parts.{part, put};
