@@ -2,14 +2,13 @@
 use mathlib.Core.Bool.{Bool, true, false, ◌&&◌, and-true, and_assoc, true≢false}
 use mathlib.Core.Path.{◌≡◌, refl, sym, ap, ap₂, ◌∙◌, subst}
 use mathlib.Core.List.{List, [], ◌∷◌}
-use Prim.Native.Nat.{ℕ, zero, suc, ◌+◌, ◌≤◌, ◌<◌}
-use native.Mathlib.Numerals.{add-one}
+use Prim.Native.Nat.{ℕ, zero, suc}
 use native.Mathlib.Omega.{arith}
 use borrow.Author.Tests.{eq-eqb, ne_eqb, eqb-true, eqb-false}
 use lib.Bits.{bit_or, bit_xor, or_add_and, xor_add_and, xor_self, and_le_l, and_le_r}
 use lib.Dec.{eqb, eqb-suc-zero}
-use lib.ListN.{length, get_or, drop, replicate, drop_of_length-le}
-use lib.Seq.{drop-cons}
+use lib.ListN.{length, replicate}
+use Rattle.std.specs.List.{fold, zip}
 use Rattle.octets.specs.Parts.{same, all_zero}
 
 -- ---- two lists are the same just where they are equal
@@ -77,35 +76,20 @@ xor-none x y = decided (eqb x y) refl
         ∙ sym e
 
 -- one more byte: the bits gathered, and the test of what is left
-gathered : (bits x : ℕ) (t rest : Bool) → eqb x 0 ≡ t → (eqb bits 0 && (t && rest)) ≡ (eqb (bit_or bits x) 0 && rest)
+gathered : (bits x : ℕ) (t rest : Bool) → eqb x 0 ≡ t → (eqb (bit_or bits x) 0 && rest) ≡ (eqb bits 0 && (t && rest))
 gathered bits x t rest e =
-    sym (and_assoc (eqb bits 0) t rest)
-    ∙ ap (λ (u : Bool). u && rest) (ap (λ (u : Bool). eqb bits 0 && u) (sym e) ∙ sym (or-none bits x))
+    ap (λ (u : Bool). u && rest) (or-none bits x ∙ ap (λ (u : Bool). eqb bits 0 && u) e) ∙ and_assoc (eqb bits 0) t rest
 
-pub same_more : (a b : List ℕ) (i bits : ℕ) → i < length a → i < length b
-    → (eqb bits 0 && same (drop i a) (drop i b))
-    ≡ (eqb (bit_or bits (bit_xor (get_or a i 0) (get_or b i 0))) 0 && same (drop (i + 1) a) (drop (i + 1) b))
+pub fold-same : (a b : List ℕ) (bits : ℕ) → length a ≡ length b
+    → eqb (fold (λ (t : ℕ) (p : ℕ × ℕ). bit_or t (bit_xor p.0 p.1)) bits (zip a b)) 0 ≡ (eqb bits 0 && same a b)
 unfolding same
-same_more a b i bits h k =
-    ap₂ (λ (s t : List ℕ). eqb bits 0 && same s t) (drop-cons a i 0 h) (drop-cons b i 0 k)
-    ∙ gathered bits (bit_xor (get_or a i 0) (get_or b i 0)) (eqb (get_or a i 0) (get_or b i 0)) (same (drop (suc i) a) (drop (suc i) b))
-    (xor-none (get_or a i 0) (get_or b i 0))
-    ∙ ap (λ (j : ℕ). eqb (bit_or bits (bit_xor (get_or a i 0) (get_or b i 0))) 0 && same (drop j a) (drop j b)) (sym (add-one i))
+fold-same [] [] bits h = sym (and-true (eqb bits 0))
+fold-same [] (y ∷ b) bits h = absurd (omega arith)
+fold-same (x ∷ a) [] bits h = absurd (omega arith)
+fold-same (x ∷ a) (y ∷ b) bits h =
+    fold-same a b (bit_or bits (bit_xor x y)) (omega (arith, h)) ∙ gathered bits (bit_xor x y) (eqb x y) (same a b) (xor-none x y)
 
-pub same-all : (a b : List ℕ) (i bits : ℕ) → length a ≤ i → length b ≤ i
-    → (eqb bits 0 && same (drop i a) (drop i b)) ≡ eqb bits 0
-unfolding same
-same-all a b i bits h k =
-    ap₂ (λ (s t : List ℕ). eqb bits 0 && same s t) (drop_of_length-le a h) (drop_of_length-le b k) ∙ and-true (eqb bits 0)
-
-pub all_zero-more : (s : List ℕ) (i bits : ℕ) → i < length s
-    → (eqb bits 0 && all_zero (drop i s)) ≡ (eqb (bit_or bits (get_or s i 0)) 0 && all_zero (drop (i + 1) s))
+pub fold-zero : (s : List ℕ) (bits : ℕ) → eqb (fold bit_or bits s) 0 ≡ (eqb bits 0 && all_zero s)
 unfolding all_zero
-all_zero-more s i bits h =
-    ap (λ (t : List ℕ). eqb bits 0 && all_zero t) (drop-cons s i 0 h)
-    ∙ gathered bits (get_or s i 0) (eqb (get_or s i 0) 0) (all_zero (drop (suc i) s)) refl
-    ∙ ap (λ (j : ℕ). eqb (bit_or bits (get_or s i 0)) 0 && all_zero (drop j s)) (sym (add-one i))
-
-pub all_zero-all : (s : List ℕ) (i bits : ℕ) → length s ≤ i → (eqb bits 0 && all_zero (drop i s)) ≡ eqb bits 0
-unfolding all_zero
-all_zero-all s i bits h = ap (λ (t : List ℕ). eqb bits 0 && all_zero t) (drop_of_length-le s h) ∙ and-true (eqb bits 0)
+fold-zero [] bits = sym (and-true (eqb bits 0))
+fold-zero (x ∷ s) bits = fold-zero s (bit_or bits x) ∙ gathered bits x (eqb x 0) (all_zero s) refl

@@ -1,15 +1,16 @@
-ghost use Rattle.std.specs.Prelude.{◌≡◌, ◌+◌, ◌≤◌, eqb, length, replicate};
+ghost use Rattle.std.specs.Prelude.{◌≡◌, ◌+◌, ◌≤◌, eqb, length, replicate, fold, bit_or, bit_xor};
+ghost use Rattle.std.specs.List.{zip};
 ghost use Rattle.octets.specs.Parts.{put, same, all_zero};
 
 // Copies `src` into `dst`, from offset `at` on.
+#[tactic(auto, using(crate::proofs::PartLaws::paste_more))]
 pub fn copy(dst: &mut [u8], at: usize, src: &[u8])
     requires { at + length src.now ≤ length dst.old }
     ensures { dst.new ≡ put dst.old at src.now }
 {
-    let mut i = 0;
-    while i < src.len() {
+    // `copy_from_slice` calls memmove: by the C interface an archive needs memcpy and memset, nothing else.
+    for i in 0..src.len() {
         dst[at + i] = src[i];
-        i += 1;
     }
 }
 
@@ -18,10 +19,9 @@ pub fn fill(dst: &mut [u8], at: usize, n: usize, v: u8)
     requires { at + n ≤ length dst.old }
     ensures { dst.new ≡ put dst.old at (replicate n v) }
 {
-    let mut i = 0;
-    while i < n {
-        dst[at + i] = v;
-        i += 1;
+    // A slice's `fill` was slower: 1.3 to 1.7 times the time for 5 to 64 bytes, 1.2 for 1 KiB.
+    for i in at..at + n {
+        dst[i] = v;
     }
 }
 
@@ -29,35 +29,20 @@ pub fn fill(dst: &mut [u8], at: usize, n: usize, v: u8)
 pub fn equal(a: &[u8], b: &[u8]) -> bool
     ensures { result ≡ same a.now b.now }
 {
-    if a.len() != b.len() {
-        return false;
-    }
-    difference(a, b) == 0
+    a.len() == b.len() && difference(a, b) == 0
 }
 
 // 0 where `a` and `b`, which are as long, are the same. It goes through to the end, so that it runs many bytes at a time.
 fn difference(a: &[u8], b: &[u8]) -> u8
-    requires { length a.now ≡ length b.now }
-    ensures { eqb result 0 ≡ same a.now b.now }
+    ensures { result ≡ fold (λ bits p. bit_or bits (bit_xor p.0 p.1)) 0 (zip a.now b.now) }
 {
-    let mut bits = 0u8;
-    let mut i = 0;
-    while i < a.len() {
-        bits = bits | (a[i] ^ b[i]);
-        i += 1;
-    }
-    bits
+    // `a == b` was slower: 1.1 times the time for 256 bytes and for 1 KiB.
+    a.iter().zip(b).fold(0, |bits, (x, y)| bits | (x ^ y))
 }
 
-// Whether every byte of `s` is zero.
+// Whether every byte of `s` is zero. It goes through to the end, so that it runs many bytes at a time.
 pub fn zero(s: &[u8]) -> bool
     ensures { result ≡ all_zero s.now }
 {
-    let mut bits = 0u8;
-    let mut i = 0;
-    while i < s.len() {
-        bits = bits | s[i];
-        i += 1;
-    }
-    bits == 0
+    s.iter().fold(0, |bits, x| bits | x) == 0
 }
