@@ -2,68 +2,24 @@
 use mathlib.Core.Path.{◌≡◌, refl, sym, ap, ap₂, ◌∙◌}
 use mathlib.Core.List.{List, [], ◌∷◌, ◌++◌, reverse, reverse_aux, reverse-append, reverse-reverse}
 use Prim.Native.Nat.{ℕ, zero, suc, ◌+◌, ◌*◌, ◌/◌, ◌%◌, ◌^◌, ◌≤◌, ◌<◌}
-use native.Mathlib.Nat.{mul_comm, mul_assoc, pow-suc, zero-add, suc-add, mod-lt, mod-one, mod-eq_of_lt, div-one}
+use native.Mathlib.Nat.{mul_comm, pow-suc, zero-add, suc-add, mod-lt, mod-one, mod-eq_of_lt, div-one}
 use native.Mathlib.Nat.{div-div-eq-div-mul, one-le-pow, zero-lt-suc}
 use native.Mathlib.Omega.{arith}
-use lib.Arith.{mod-mul, digits_div, digits_mod, digits_lt}
-use lib.Bits.{bit_or, or_shifted_r}
+use lib.Arith.{mod-mul, digits_div, digits_mod}
 use lib.ListN.{length, get_or, length-reverse}
-use lib.Pow.{shl_exact}
 use Rattle.octets.specs.Numbers.{little, little_bytes, big, big_bytes}
 use Rattle.octets.specs.Parts.{part, put, Octets}
-use Rattle.octets.proofs.PartLaws.{length_part, part-add, part-one, put-beside, octets-cons}
+use Rattle.octets.proofs.PartLaws.{part_items, put-beside, octets-cons}
 
 pos : zero < 256
 pos = zero-lt-suc 255
 
--- ---- numbers of joined bytes
+-- ---- reading
 
-pub little-append : (a b : List ℕ) → little (a ++ b) ≡ little a + 256 ^ length a * little b
-unfolding little
-little-append [] b = omega arith
-little-append (x ∷ a) b =
-    let e : 256 ^ length a * 256 * little b ≡ 256 * (256 ^ length a * little b) =
-    ap (λ (k : ℕ). k * little b) (mul_comm (256 ^ length a) 256) ∙ mul_assoc 256 (256 ^ length a) (little b) in
-    rw (little-append a b, pow-suc) (omega (arith, e))
-
-pub big-append : (a b : List ℕ) → big (a ++ b) ≡ big b + 256 ^ length b * big a
-big-append a b =
-    ap little (reverse-append a b) ∙ little-append (reverse b) (reverse a)
-    ∙ ap (λ (k : ℕ). big b + 256 ^ k * big a) (length-reverse b)
-
--- ---- reading: two halves of n bytes each, joined by a shift of k bits and |, are the number of the whole
-
-module _ (s : List ℕ) (at n : ℕ) (fits : at + (n + n) ≤ length s) where
-  little-halves : little (part s at (n + n)) ≡ little (part s at n) + 256 ^ n * little (part s (at + n) n)
-  little-halves =
-      ap little (part-add s at n n) ∙ little-append (part s at n) (part s (at + n) n)
-      ∙ ap (λ (k : ℕ). little (part s at n) + 256 ^ k * little (part s (at + n) n)) (length_part s at n (omega arith))
-
-  big-halves : big (part s at (n + n)) ≡ big (part s (at + n) n) + 256 ^ n * big (part s at n)
-  big-halves =
-      ap big (part-add s at n n) ∙ big-append (part s at n) (part s (at + n) n)
-      ∙ ap (λ (k : ℕ). big (part s (at + n) n) + 256 ^ k * big (part s at n)) (length_part s (at + n) n (omega arith))
-
-  module _ (k w lo hi : ℕ) (bytes : 2 ^ k ≡ 256 ^ n) (room : k + k ≤ w) (low : lo < 2 ^ k) (high : hi < 2 ^ k) where
-    joined : bit_or lo (hi * 2 ^ k % 2 ^ w) ≡ lo + 256 ^ n * hi
-    joined =
-        ap (bit_or lo) (shl_exact k k w high room) ∙ or_shifted_r hi k lo low
-        ∙ omega (arith, ap (λ (p : ℕ). hi * p) bytes, mul_comm hi (256 ^ n))
-
-    pub joined-little : lo ≡ little (part s at n) → hi ≡ little (part s (at + n) n)
-        → bit_or lo (hi * 2 ^ k % 2 ^ w) ≡ little (part s at (n + n))
-    joined-little l h = joined ∙ ap₂ (λ (x y : ℕ). x + 256 ^ n * y) l h ∙ sym little-halves
-
-    pub joined-big : lo ≡ big (part s (at + n) n) → hi ≡ big (part s at n) → bit_or lo (hi * 2 ^ k % 2 ^ w) ≡ big (part s at (n + n))
-    joined-big l h = joined ∙ ap₂ (λ (x y : ℕ). x + 256 ^ n * y) l h ∙ sym big-halves
-
--- a byte is the number that it spells, either way
+-- a byte is the number that it spells
 pub one_byte : (s : List ℕ) (at : ℕ) → at < length s → get_or s at 0 ≡ little (part s at 1)
 unfolding little
-one_byte s at h = rw part-one (omega arith)
-
-pub one-byte-big : (s : List ℕ) (at : ℕ) → at < length s → get_or s at 0 ≡ big (part s at 1)
-one-byte-big s at h = one_byte s at h ∙ ap little (part-one s at h ∙ sym (ap reverse (part-one s at h)))
+one_byte s at h = let e : part s at 1 ≡ get_or s at 0 ∷ [] = part_items s at 1 (omega arith) in rw e (omega arith)
 
 -- ---- the bytes of a number
 
@@ -118,13 +74,6 @@ big_bytes-big s h =
     ap (λ (n : ℕ). big_bytes n (big s)) (sym (length-reverse s))
     ∙ ap reverse (little_bytes-little (reverse s) (octets-reverse s h)) ∙ reverse-reverse s
 
-pub little-lt : (s : List ℕ) → Octets s → little s < 256 ^ length s
-unfolding little
-little-lt [] h = omega arith
-little-lt (x ∷ s) h =
-    let d : little s * 256 + x < 256 ^ length s * 256 = digits_lt (little-lt s (λ i. h (suc i))) (h zero) in
-    rw pow-suc (omega arith)
-
 -- ---- writing: two halves, side by side, are the bytes of the whole
 
 pub little_bytes-add : (m n x : ℕ) → little_bytes (m + n) x ≡ little_bytes m x ++ little_bytes n (x / 256 ^ m)
@@ -144,15 +93,6 @@ little_bytes-mod n x =
     ∙ little_bytes-little (little_bytes n x) (octets-little_bytes n x)
 
 module _ (s t u : List ℕ) (at n x : ℕ) (fits : at + (n + n) ≤ length s) where
-  pub put-little : t ≡ put s at (little_bytes n (x % 256 ^ n)) → u ≡ put t (at + n) (little_bytes n (x / 256 ^ n))
-      → u ≡ put s at (little_bytes (n + n) x)
-  put-little e f =
-      f ∙ ap (λ (r : List ℕ). put r (at + n) (little_bytes n (x / 256 ^ n))) e
-      ∙ put-beside s at n (little_bytes n (x % 256 ^ n)) (little_bytes n (x / 256 ^ n)) (length-little_bytes n (x % 256 ^ n))
-      (omega (arith, length-little_bytes n (x / 256 ^ n)))
-      ∙ ap (λ (v : List ℕ). put s at v)
-      (ap (λ (v : List ℕ). v ++ little_bytes n (x / 256 ^ n)) (little_bytes-mod n x) ∙ sym (little_bytes-add n n x))
-
   pub put-big : t ≡ put s at (big_bytes n (x / 256 ^ n)) → u ≡ put t (at + n) (big_bytes n (x % 256 ^ n)) → u ≡ put s at (big_bytes (n + n) x)
   put-big e f =
       f ∙ ap (λ (r : List ℕ). put r (at + n) (big_bytes n (x % 256 ^ n))) e

@@ -1,13 +1,13 @@
--- Laws of parts of byte lists, and of what a loop that stores byte by byte leaves.
+-- Laws of parts of byte lists, and of a store in a loop.
 use mathlib.Core.Path.{◌≡◌, refl, sym, ap, ap₂, ◌∙◌}
 use mathlib.Core.List.{List, [], ◌∷◌, ◌++◌, append_assoc}
 use Prim.Native.Nat.{ℕ, zero, suc, ◌+◌, ◌-◌, ◌≤◌, ◌<◌}
-use native.Mathlib.Nat.{le_antisymm, add-sub_of_le, zero-add, suc-add, add_assoc}
+use native.Mathlib.Nat.{add-sub_of_le, zero-add, suc-add, add_assoc}
 use native.Mathlib.Numerals.{add-one}
 use native.Mathlib.Omega.{arith}
-use lib.ListN.{length, get_or, set, take, drop, replicate, length-append, length-take, length-drop, length-replicate, get_or-replicate}
-use lib.Seq.{paste, paste-suc, take-length, take-nil, take-add, take_at, drop_at, take-take, drop-drop, drop-cons, get_or-drop}
-use lib.Seq.{length-take-le, take-append-le, sets-eq}
+use lib.ListN.{length, get_or, set, take, drop, length-append, length-take, length-drop}
+use lib.Seq.{paste, paste-suc, take-nil, take-add, take_at, drop_at, take-take, drop-drop, drop-cons, get_or-drop}
+use lib.Seq.{length-take-le, take-append-le}
 use Rattle.octets.specs.Parts.{part, put, Octets}
 
 -- ---- a part
@@ -18,9 +18,6 @@ length_part s at n h = simp (length-take, length-drop) (omega arith)
 -- a part is its first bytes, then the rest of it
 pub part-add : (s : List ℕ) (at m n : ℕ) → part s at (m + n) ≡ part s at m ++ part s (at + m) n
 part-add s at m n = take-add m n (drop at s) ∙ ap (λ (t : List ℕ). part s at m ++ take n t) (drop-drop m at s)
-
-pub part-one : (s : List ℕ) (at : ℕ) → at < length s → part s at 1 ≡ get_or s at 0 ∷ []
-part-one s at h = ap (λ (t : List ℕ). take 1 t) (drop-cons s at 0 h)
 
 -- the n elements from offset at on, one by one
 abbrev pub items : List ℕ → ℕ → ℕ → List ℕ
@@ -97,27 +94,12 @@ pub put-beside : (s : List ℕ) (at k : ℕ) (v w : List ℕ) → length v ≡ k
     → put (put s at v) (at + k) w ≡ put s at (v ++ w)
 put-beside s at k v w e h = rw (← e) (put-put s at v (omega arith) w (omega arith))
 
--- two stores side by side
-pub set-set-put : (s : List ℕ) (at x y : ℕ) → at + 2 ≤ length s → set (set s at x) (at + 1) y ≡ put s at (x ∷ y ∷ [])
-set-set-put s at x y h = rw add-one (sets-eq (x ∷ y ∷ []) s at h)
-
 -- ---- a loop that stores v from offset at on, byte by byte
 
 -- one more byte is stored
 pub paste_more : (s : List ℕ) (at : ℕ) (v : List ℕ) (i : ℕ) → at + length v ≤ length s → i < length v
     → set (paste s at v i) (at + i) (get_or v i 0) ≡ paste s at v (i + 1)
 paste_more s at v i fits h = rw add-one (paste-suc s at v i 0 (omega arith) h)
-
--- all of v is stored
-pub paste_all : (s : List ℕ) (at : ℕ) (v : List ℕ) (i : ℕ) → i ≤ length v → length v ≤ i → paste s at v i ≡ put s at v
-paste_all s at v i h l = rw (le_antisymm h l, take-length)
-
--- one more of n times x is stored
-pub fill_more : (s : List ℕ) (at n x i : ℕ) → at + n ≤ length s → i < n
-    → set (paste s at (replicate n x) i) (at + i) x ≡ paste s at (replicate n x) (i + 1)
-fill_more s at n x i fits h =
-    ap (λ (y : ℕ). set (paste s at (replicate n x) i) (at + i) y) (sym (get_or-replicate n i x 0 h))
-    ∙ paste_more s at (replicate n x) i (rw length-replicate fits) (rw length-replicate h)
 
 -- ---- each element is a byte
 
@@ -140,7 +122,3 @@ octets-cons x s b h (suc i) = h i
 pub octets-append : (a b : List ℕ) → Octets a → Octets b → Octets (a ++ b)
 octets-append [] b h k = k
 octets-append (x ∷ a) b h k = octets-cons x (a ++ b) (h zero) (octets-append a b (λ j. h (suc j)) k)
-
-pub octets-replicate : (n x : ℕ) → x < 256 → Octets (replicate n x)
-octets-replicate zero x h i = omega arith
-octets-replicate (suc n) x h i = octets-cons x (replicate n x) h (octets-replicate n x h) i
