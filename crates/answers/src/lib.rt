@@ -6,7 +6,9 @@ pub mod rules;
 
 ghost use Rattle.std.specs.Prelude.{◌≡◌, length};
 ghost use Rattle.answers.specs.Answers as spec;
+ghost use Rattle.answers.specs.Codes.{number};
 
+use codes::Refusal;
 use octets::numbers;
 
 // The answer record's length in bytes.
@@ -29,10 +31,26 @@ pub struct Answer {
     pub entry: u64,
 }
 
-pub fn stop_at(code: u64, place: u64) -> Stop
-    ensures { result ≡ spec.stop_at code place }
-{
-    Stop { code, place }
+impl Stop {
+    // Nothing refused.
+    pub fn done() -> Stop
+        ensures { result ≡ spec.stop_at 0 0 }
+    {
+        Stop {
+            code: codes::DONE,
+            place: 0,
+        }
+    }
+
+    // A refusal, and its place.
+    pub fn refused(why: Refusal, place: u64) -> Stop
+        ensures { result ≡ spec.stop_at (number why) place }
+    {
+        Stop {
+            code: why.code(),
+            place,
+        }
+    }
 }
 
 // The answer of a stop, with the commands done, the bytes stored and the entry.
@@ -49,10 +67,10 @@ pub fn told(stop: Stop, commands: u64, stored: u64, entry: u64) -> Answer
 }
 
 // A refusal that nothing went before.
-pub fn refused(code: u64) -> Answer
-    ensures { result ≡ spec.refused code }
+pub fn refused(why: Refusal) -> Answer
+    ensures { result ≡ spec.refused (number why) }
 {
-    told(stop_at(code, 0), 0, 0, 0)
+    told(Stop::refused(why, 0), 0, 0, 0)
 }
 
 // Writes an answer into the lent record, and gives its code, which the call returns.
