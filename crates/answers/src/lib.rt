@@ -9,7 +9,7 @@ ghost use Rattle.answers.specs.Answers as spec;
 ghost use Rattle.answers.specs.Codes.{number};
 
 use codes::Refusal;
-use octets::numbers;
+use octets::numbers::Number;
 
 // The answer record's length in bytes.
 pub const RECORD_LENGTH: usize = 40;
@@ -78,10 +78,10 @@ pub fn write_answer(answer: &mut [u8], a: Answer) -> u64
     requires { length answer.old ≡ spec.record_length }
     ensures { (answer.new ≡ spec.record_bytes a) × (result ≡ a.code) }
 {
-    numbers::put_little8(answer, 0, a.code);
-    numbers::put_little8(answer, 8, a.place);
-    numbers::put_little8(answer, 16, a.commands);
-    numbers::put_little8(answer, 24, a.stored);
-    numbers::put_little8(answer, 32, a.entry);
+    a.code.put_little(answer, 0);
+    a.place.put_little(answer, 8);
+    a.commands.put_little(answer, 16);
+    a.stored.put_little(answer, 24);
+    a.entry.put_little(answer, 32);
     a.code
 }
