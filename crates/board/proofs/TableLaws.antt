@@ -13,8 +13,8 @@ use Rattle.answers.specs.Rules.{first_broken}
 use Rattle.answers.proofs.RuleLaws.{AllHold, zero-all-hold, all-hold-zero, first-broken-same}
 use Rattle.board.specs.Cpuid.{Leaf, leaf, before, ascending, table_rules, register, lookup}
 use Rattle.board.specs.Records.{records}
-use Rattle.board.specs.declared.Found.{Found}
-use Rattle.board.specs.declared.Found.TheVariants.{Word, Nothing}
+use Rattle.std.specs.Prelude.{Option}
+use Rattle.std.specs.Prelude.{Some, None}
 use Rattle.board.proofs.RunLaws.{each_more}
 use Rattle.answers.proofs.ChoiceLaws.{cond-true}
 use Rattle.board.proofs.TestLaws.{le-or-lt}
@@ -109,7 +109,7 @@ module _ (read : ℕ → Leaf) where
 -- ---- what a lookup finds
 
 module _ (l : Leaf) (ls : List Leaf) (eax ecx k : ℕ) where
-  pub lookup-hit : Has l eax ecx → lookup (l ∷ ls) eax ecx k ≡ Word (register k l)
+  pub lookup-hit : Has l eax ecx → lookup (l ∷ ls) eax ecx k ≡ Some (register k l)
   unfolding lookup
   lookup-hit h = simp (eq-eqb l.eax_input eax h.0, eq-eqb l.ecx_input ecx h.1)
 
@@ -118,7 +118,7 @@ module _ (l : Leaf) (ls : List Leaf) (eax ecx k : ℕ) where
   lookup-miss h = go (eqb l.eax_input eax) refl (eqb l.ecx_input ecx) refl
     where
       go : (s : Bool) → eqb l.eax_input eax ≡ s → (t : Bool) → eqb l.ecx_input ecx ≡ t
-          → cond s (cond t (Word (register k l)) (lookup ls eax ecx k)) (lookup ls eax ecx k) ≡ lookup ls eax ecx k
+          → cond s (cond t (Some (register k l)) (lookup ls eax ecx k)) (lookup ls eax ecx k) ≡ lookup ls eax ecx k
       go true e true f = absurd (h (eqb-true _ _ e, eqb-true _ _ f))
       go true e false f = refl
       go false e t f = refl
@@ -133,10 +133,10 @@ module _ (l : Leaf) (ls : List Leaf) (eax ecx k : ℕ) where
 
 module _ (read : ℕ → Leaf) (eax ecx k : ℕ) where
   -- one of n records from number i on has both inputs, and the lookup gives its register; or none has, and it gives nothing
-  abbrev pub Finds : ℕ → ℕ → Found → Type 0
+  abbrev pub Finds : ℕ → ℕ → Option ℕ → Type 0
   Finds i n f =
-      ((j : ℕ) × (i ≤ j) × (j < i + n) × Has (read j) eax ecx × (f ≡ Word (register k (read j))))
-      ⊎ (((j : ℕ) → i ≤ j → j < i + n → Has (read j) eax ecx → ⊥) × (f ≡ Nothing))
+      ((j : ℕ) × (i ≤ j) × (j < i + n) × Has (read j) eax ecx × (f ≡ Some (register k (read j))))
+      ⊎ (((j : ℕ) → i ≤ j → j < i + n → Has (read j) eax ecx → ⊥) × (f ≡ None))
 
   pub lookup-finds : (i n : ℕ) → Finds i n (lookup (records read i n) eax ecx k)
   unfolding records lookup

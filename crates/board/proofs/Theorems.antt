@@ -13,7 +13,7 @@ use Rattle.answers.specs.Rules.{first_broken}
 use Rattle.board.specs.Cpuid.{leaf, leaves, table_rules, register, lookup}
 use Rattle.board.specs.Map.{Region, region, end, regions, total, map_rules, uncovered, ram, offset}
 use Rattle.board.specs.Reach.{reachable}
-use Rattle.board.specs.declared.Found.TheVariants.{Word, Nothing}
+use Rattle.std.specs.Prelude.{Some, None}
 use Rattle.board.proofs.MapLaws.{Ordered, MapTaken, map-means, map-holds, ordered-in-order, in-order-ordered, offset-onto}
 use Rattle.board.proofs.MapLaws.{In, Covered, covered-by, covered-some, covered-ram, ram-covered, uncovered-above}
 use Rattle.board.proofs.MapLaws.{uncovered-covered, uncovered-not}
@@ -186,15 +186,15 @@ module _ (table : List ℕ) (taken : first_broken (table_rules table) ≡ 0) (ea
       has-once (leaf table) (length table / 24) i j eax ecx (table-means table taken).order p.0 q.0 (omega arith) (omega arith)
 
   -- A lookup finds a record exactly if one has both inputs, and then that one: it gives its register n.
-  pub lookup-record : (n i : ℕ) → RecordHas table eax ecx i → lookup (leaves table) eax ecx n ≡ Word (register n (leaf table i))
+  pub lookup-record : (n i : ℕ) → RecordHas table eax ecx i → lookup (leaves table) eax ecx n ≡ Some (register n (leaf table i))
   lookup-record n i p = go (lookup-finds (leaf table) eax ecx n 0 (length table / 24))
     where
       go : Finds (leaf table) eax ecx n 0 (length table / 24) (lookup (leaves table) eax ecx n)
-          → lookup (leaves table) eax ecx n ≡ Word (register n (leaf table i))
-      go (inl w) = w.4 ∙ ap (λ (k : ℕ). Word (register n (leaf table k))) (lookup-only w.0 i (omega arith) p)
+          → lookup (leaves table) eax ecx n ≡ Some (register n (leaf table i))
+      go (inl w) = w.4 ∙ ap (λ (k : ℕ). Some (register n (leaf table k))) (lookup-only w.0 i (omega arith) p)
       go (inr w) = absurd (w.0 i (omega arith) (omega arith) (p.1, p.2))
 
-  pub lookup-found : (n x : ℕ) → lookup (leaves table) eax ecx n ≡ Word x
+  pub lookup-found : (n x : ℕ) → lookup (leaves table) eax ecx n ≡ Some x
       → (i : ℕ) × RecordHas table eax ecx i × (x ≡ register n (leaf table i))
   lookup-found n x e = go (lookup-finds (leaf table) eax ecx n 0 (length table / 24))
     where
@@ -203,7 +203,7 @@ module _ (table : List ℕ) (taken : first_broken (table_rules table) ≡ 0) (ea
       go (inl w) = (w.0, omega arith, cc w.4)
       go (inr w) = absurd (let z : ◌≡◌ {A = ℕ} 0 1 = cc w.1 in omega arith)
 
-  pub lookup-nothing : (n : ℕ) → (lookup (leaves table) eax ecx n ≡ Nothing) ↔ ((i : ℕ) → RecordHas table eax ecx i → ⊥)
+  pub lookup-nothing : (n : ℕ) → (lookup (leaves table) eax ecx n ≡ None) ↔ ((i : ℕ) → RecordHas table eax ecx i → ⊥)
   lookup-nothing n = (
     λ e i p. let q = lookup-record n i p in let z : ◌≡◌ {A = ℕ} 0 1 = cc in
         omega arith,
@@ -211,6 +211,6 @@ module _ (table : List ℕ) (taken : first_broken (table_rules table) ≡ 0) (ea
   )
     where
       go : ((i : ℕ) → RecordHas table eax ecx i → ⊥) → Finds (leaf table) eax ecx n 0 (length table / 24) (lookup (leaves table) eax ecx n)
-          → lookup (leaves table) eax ecx n ≡ Nothing
+          → lookup (leaves table) eax ecx n ≡ None
       go none (inl w) = absurd (none w.0 (omega arith))
       go none (inr w) = w.1

@@ -1,161 +1,155 @@
--- Loops over the map and the table: what the records from number i on say, by the one that stands there and those behind it.
-
-use mathlib.Core.Bool.{Bool, true, false, false≢true, cond}
+-- Loops over the map and the table: their records as the parts of a slice, and what the one that stands next says.
+use mathlib.Core.Bool.{Bool, true, false, cond}
 use mathlib.Core.List.{List, [], ◌∷◌}
 use mathlib.Core.Path.{◌≡◌, refl, sym, ap, subst, ◌∙◌}
-use Prim.Native.Nat.{ℕ, zero, suc, ◌+◌, ◌-◌, ◌/◌, ◌^◌, ◌≤◌, ◌<◌, max}
-use native.Mathlib.Nat.{sub-zero}
+use Prim.Native.Nat.{ℕ, zero, suc, ◌+◌, ◌-◌, ◌*◌, ◌/◌, ◌^◌, ◌≤◌, ◌<◌}
+use native.Mathlib.Nat.{suc-add}
 use native.Mathlib.Numerals.{add-one}
 use native.Mathlib.Omega.{arith}
-use lib.Dec.{eqb}
-use lib.ListN.{length}
-use borrow.Author.Tests.{eqb-true, eq-eqb}
-use Rattle.board.specs.Cpuid.{Leaf, leaf, leaves, before, ascending, register, lookup}
+use lib.ListN.{length, get_or, drop}
+use lib.Seq.{drop-cons}
+use Rattle.std.proofs.Common.{map}
+use Rattle.std.proofs.lemmas.List.{drop_all}
+use Rattle.std.specs.List.{IsAllAdjacentAnswer}
+use Rattle.std.specs.Simd.{first_chunks}
+use Rattle.octets.specs.Numbers.{little}
+use Rattle.octets.specs.Parts.{part}
+use Rattle.board.specs.Cpuid.{Leaf, leaf, leaves, before, ascending}
 use Rattle.board.specs.Map.{Region, region, regions, end, ordered, total, uncovered, offset}
-use Rattle.board.specs.Records.{records}
-use Rattle.board.specs.declared.Found.TheVariants.{Word}
-use Rattle.board.proofs.MapLaws.{Ordered, ordered-means, ordered_step, total-fits, uncovered-step, uncovered-below}
-use Rattle.board.proofs.MapLaws.{offset-none, offset-le-total}
-use Rattle.board.proofs.RunLaws.{records-next, records-end}
-use Rattle.board.proofs.TableLaws.{lookup-hit, lookup-miss}
-use Rattle.answers.proofs.ChoiceLaws.{cond-true, cond-eq}
+use Rattle.board.proofs.MapLaws.{Ordered, ordered-means, total-fits, uncovered-below, uncovered-above, offset-none, offset-le-total}
+use Rattle.board.proofs.RunLaws.{part-part, records-chunks}
 
--- ---- the map
+-- a number that stands in a part
+inside : (s : List ℕ) (a m b n c : ℕ) → b + n ≤ m → a + b ≡ c → little (part (part s a m) b n) ≡ little (part s c n)
+inside s a m b n c h e = ap little (part-part s a m b n h ∙ ap (λ (k : ℕ). part s k n) e)
 
--- the regions from number i on
-abbrev pub left : List ℕ → ℕ → List Region
-left map i = records (region map) i (length map / 16 - i)
+-- a record's region, of the record alone
+abbrev pub region_of : List ℕ → Region
+region_of bytes = region bytes 0
 
-pub left-all : (map : List ℕ) → regions map ≡ left map 0
-left-all map = ap (records (region map) 0) (sym (sub-zero (length map / 16)))
+pub regions-chunks : (map_bytes : List ℕ) → regions map_bytes ≡ map region_of (first_chunks 16 (length map_bytes / 16) map_bytes)
+regions-chunks s = records-chunks region 16 s alone (length s / 16)
+  where
+    alone : (i : ℕ) → region (part s (16 * i) 16) 0 ≡ region s i
+    alone i = λ j. record {
+      base = inside s (16 * i) 16 0 8 (16 * i) (omega arith) (omega arith) j;
+      length = inside s (16 * i) 16 8 8 (16 * i + 8) (omega arith) refl j;
+    }
 
-pub left-none : (map : List ℕ) (i : ℕ) → length map / 16 ≤ i → left map i ≡ []
-left-none map i h = records-end (region map) i (length map / 16) h
+-- a record's leaf
+abbrev pub leaf_of : List ℕ → Leaf
+leaf_of bytes = leaf bytes 0
 
-module _ (map : List ℕ) (i : ℕ) (h : i < length map / 16) where
-  next : left map i ≡ region map i ∷ left map (i + 1)
-  next = records-next (region map) i (length map / 16) h
+pub leaves-chunks : (table : List ℕ) → leaves table ≡ map leaf_of (first_chunks 24 (length table / 24) table)
+leaves-chunks s = records-chunks leaf 24 s alone (length s / 24)
+  where
+    word : (i b : ℕ) → b + 4 ≤ 24 → little (part (part s (24 * i) 24) b 4) ≡ little (part s (24 * i + b) 4)
+    word i b h = inside s (24 * i) 24 b 4 (24 * i + b) h refl
 
-  -- the region keeps the rules: go on above its end
-  pub ordered-on : (low high : ℕ) → 1 ≤ (region map i).length → low ≤ (region map i).base → end (region map i) ≤ 2 ^ 52
-      → end (region map i) ≡ high
-      → ordered low (left map i) ≡ ordered high (left map (i + 1))
-  ordered-on low high a b c e =
-      ap (ordered low) next ∙ ordered_step low (region map i) (left map (i + 1)) a b c ∙ ap (λ (k : ℕ). ordered k (left map (i + 1))) e
+    alone : (i : ℕ) → leaf (part s (24 * i) 24) 0 ≡ leaf s i
+    alone i = λ j. record {
+      eax_input = inside s (24 * i) 24 0 4 (24 * i) (omega arith) (omega arith) j;
+      ecx_input = word i 4 (omega arith) j;
+      eax = word i 8 (omega arith) j;
+      ebx = word i 12 (omega arith) j;
+      ecx = word i 16 (omega arith) j;
+      edx = word i 20 (omega arith) j;
+    }
 
-  -- it breaks one
-  pub ordered-stops : (low : ℕ) → (1 ≤ (region map i).length → low ≤ (region map i).base → end (region map i) ≤ 2 ^ 52 → ⊥)
-      → ordered low (left map i) ≡ false
-  ordered-stops low f = go (ordered low (left map i)) refl
-    where
-      go : (t : Bool) → ordered low (left map i) ≡ t → t ≡ false
-      go true e =
-          let o = ordered-means low (region map i ∷ left map (i + 1)) (subst (λ (rs : List Region). ordered low rs ≡ true) next e) in
-          absurd (f o.0 o.1 o.2)
-      go false e = refl
+-- ---- a loop over records
 
-  pub total-on : total (left map i) ≡ (region map i).length + total (left map (i + 1))
-  unfolding total
-  total-on = ap total next
+-- what the record at i gives, and those behind it
+pub map-drop : {A : Type 0} (f : List ℕ → A) (xs : List (List ℕ)) (i : ℕ) → i < length xs
+    → map f (drop i xs) ≡ f (get_or xs i []) ∷ map f (drop (i + 1) xs)
+map-drop f xs i h = ap (map f) (drop-cons xs i [] h) ∙ ap (λ (j : ℕ). f (get_or xs i []) ∷ map f (drop j xs)) (sym (add-one i))
 
-  pub uncovered-on : (a b : ℕ) → (region map i).base ≤ a → max a (end (region map i)) ≡ b
-      → uncovered (left map i) a ≡ uncovered (left map (i + 1)) b
-  uncovered-on a b l e =
-      ap (λ (rs : List Region). uncovered rs a) next ∙ uncovered-step (region map i) (left map (i + 1)) a l
-      ∙ ap (uncovered (left map (i + 1))) e
+-- behind the last there is none
+pub map-drop_none : {A : Type 0} (f : List ℕ → A) (xs : List (List ℕ)) (i : ℕ) → length xs ≤ i → map f (drop i xs) ≡ []
+map-drop_none f xs i h = ap (map f) (drop_all i xs h)
 
-  pub offset-on : (a : ℕ) → (region map i).length ≤ a - (region map i).base
-      → offset (left map i) a ≡ (region map i).length + offset (left map (i + 1)) a
-  unfolding offset
-  offset-on a l = ap (λ (rs : List Region). offset rs a) next ∙ omega arith
+pub ruleset record_by_record = (map-drop, map-drop_none)
 
--- of regions in order, those from number i on
-ordered-left : (map : List ℕ) (i : ℕ) → i ≤ length map / 16 → Ordered 0 (regions map) → (low : ℕ) × Ordered low (left map i)
-ordered-left map zero h o = (0, subst (λ (rs : List Region). Ordered 0 rs) (left-all map) o)
-ordered-left map (suc i) h o =
-    let w = ordered-left map i (omega arith) o in
-    let s = subst (λ (rs : List Region). Ordered w.0 rs) (next map i (omega arith)) w.1 in
-    (end (region map i), subst (λ (k : ℕ). Ordered (end (region map i)) (left map k)) (add-one i) s.3)
+-- ---- regions in order
 
 -- the code's numbers stay far below 2^64
-pub total-small : (map : List ℕ) → ordered 0 (regions map) ≡ true → total (regions map) ≤ 2 ^ 52
-total-small map o = total-fits 0 (regions map) (ordered-means 0 (regions map) o)
+pub total-small : (bytes : List ℕ) → ordered 0 (regions bytes) ≡ true → total (regions bytes) ≤ 2 ^ 52
+total-small bytes o = total-fits 0 (regions bytes) (ordered-means 0 (regions bytes) o)
 
-pub offset-small : (map : List ℕ) (a : ℕ) → ordered 0 (regions map) ≡ true → offset (regions map) a ≤ 2 ^ 52
-offset-small map a o = omega (arith, total-small map o, offset-le-total (regions map) a)
+pub offset-small : (bytes : List ℕ) (a : ℕ) → ordered 0 (regions bytes) ≡ true → offset (regions bytes) a ≤ 2 ^ 52
+offset-small bytes a o = omega (arith, total-small bytes o, offset-le-total (regions bytes) a)
 
-module _ (map : List ℕ) (i : ℕ) (h : i < length map / 16) (o : ordered 0 (regions map) ≡ true) where
-  here : Ordered (region map i).base (region map i ∷ left map (i + 1))
-  here =
-      let w = ordered-left map i (omega arith) (ordered-means 0 (regions map) o) in
-      let s = subst (λ (rs : List Region). Ordered w.0 rs) (next map i h) w.1 in
+-- of regions in order, those from i on
+ordered-drop : (low : ℕ) (xs : List (List ℕ)) (i : ℕ) → Ordered low (map region_of xs)
+    → (l : ℕ) × Ordered l (map region_of (drop i xs))
+ordered-drop low xs zero o = (low, o)
+ordered-drop low [] (suc i) o = (low, tt)
+ordered-drop low (x ∷ xs) (suc i) o = ordered-drop (end (region_of x)) xs i o.3
+
+module _ (xs : List (List ℕ)) (i : ℕ) (h : i < length xs) (o : ordered 0 (map region_of xs) ≡ true) where
+  abbrev here : Region
+  here = region_of (get_or xs i [])
+
+  standing : Ordered here.base (here ∷ map region_of (drop (i + 1) xs))
+  standing =
+      let w = ordered-drop 0 xs i (ordered-means 0 (map region_of xs) o) in
+      let s = subst (λ (rs : List Region). Ordered w.0 rs) (map-drop region_of xs i h) w.1 in
       (s.0, omega arith, s.2, s.3)
 
-  pub end-small : end (region map i) ≤ 2 ^ 52
-  end-small = here.2
+  pub end-small : end (region_of (get_or xs i [])) ≤ 2 ^ 52
+  end-small = standing.2
 
   -- below the region nothing more is covered, and no byte lies
-  pub uncovered-stops : (a : ℕ) → a < (region map i).base → uncovered (left map i) a ≡ a
+  pub uncovered-stops : (a : ℕ) → a < (region_of (get_or xs i [])).base → uncovered (map region_of (drop i xs)) a ≡ a
   uncovered-stops a l =
-      ap (λ (rs : List Region). uncovered rs a) (next map i h)
-      ∙ uncovered-below (region map i).base (region map i ∷ left map (i + 1)) a here l
+      ap (λ (rs : List Region). uncovered rs a) (map-drop region_of xs i h)
+      ∙ uncovered-below here.base (here ∷ map region_of (drop (i + 1) xs)) a standing l
 
-  pub offset-stops : (a : ℕ) → a ≤ (region map i).base → offset (left map i) a ≡ 0
+  pub offset-stops : (a : ℕ) → a ≤ (region_of (get_or xs i [])).base → offset (map region_of (drop i xs)) a ≡ 0
   offset-stops a l =
-      ap (λ (rs : List Region). offset rs a) (next map i h) ∙ offset-none (region map i).base (region map i ∷ left map (i + 1)) a here l
+      ap (λ (rs : List Region). offset rs a) (map-drop region_of xs i h)
+      ∙ offset-none here.base (here ∷ map region_of (drop (i + 1) xs)) a standing l
 
   -- within it, or at its end
-  pub offset-within : (a : ℕ) → a - (region map i).base ≤ (region map i).length → offset (left map i) a ≡ a - (region map i).base
+  pub offset-within : (a : ℕ) → a - (region_of (get_or xs i [])).base ≤ (region_of (get_or xs i [])).length
+      → offset (map region_of (drop i xs)) a ≡ a - (region_of (get_or xs i [])).base
   unfolding offset
   offset-within a l =
-      ap (λ (rs : List Region). offset rs a) (next map i h)
-      ∙ omega (arith, offset-none (end (region map i)) (left map (i + 1)) a here.3 (omega arith))
+      ap (λ (rs : List Region). offset rs a) (map-drop region_of xs i h)
+      ∙ omega (arith, offset-none (end here) (map region_of (drop (i + 1) xs)) a standing.3 (omega arith))
 
--- ---- the table
+pub ruleset regions_in_order = (record_by_record, total-small, offset-small, end-small, uncovered-stops, uncovered-above, offset-stops, offset-within)
 
--- the records from number i on
-abbrev pub leaves_left : List ℕ → ℕ → List Leaf
-leaves_left table i = records (leaf table) i (length table / 24 - i)
+-- ---- records in order
 
-pub leaves_all : (table : List ℕ) → leaves table ≡ leaves_left table 0
-leaves_all table = ap (records (leaf table) 0) (sym (sub-zero (length table / 24)))
-
-pub leaves_none : (table : List ℕ) (i : ℕ) → length table / 24 ≤ i → leaves_left table i ≡ []
-leaves_none table i h = records-end (leaf table) i (length table / 24) h
-
-leaves-next : (table : List ℕ) (i : ℕ) → i < length table / 24 → leaves_left table i ≡ leaf table i ∷ leaves_left table (i + 1)
-leaves-next table i h = records-next (leaf table) i (length table / 24) h
-
--- record i, where t is whether it has both inputs
-module _ (table : List ℕ) (i eax ecx k : ℕ) (h : i < length table / 24) (t : Bool)
-    (has : t ≡ cond (eqb (leaf table i).eax_input eax) (eqb (leaf table i).ecx_input ecx) false) where
-  pub lookup-here : t ≡ true → lookup (leaves_left table i) eax ecx k ≡ Word (register k (leaf table i))
-  lookup-here e =
-      let p = cond-true _ _ (sym has ∙ e) in
-      ap (λ (ls : List Leaf). lookup ls eax ecx k) (leaves-next table i h)
-      ∙ lookup-hit (leaf table i) (leaves_left table (i + 1)) eax ecx k (eqb-true _ _ p.0, eqb-true _ _ p.1)
-
-  pub lookup-on : t ≡ false → lookup (leaves_left table i) eax ecx k ≡ lookup (leaves_left table (i + 1)) eax ecx k
-  lookup-on e =
-      ap (λ (ls : List Leaf). lookup ls eax ecx k) (leaves-next table i h)
-      ∙ lookup-miss (leaf table i) (leaves_left table (i + 1)) eax ecx k
-      (λ p. false≢true (sym e ∙ has ∙ cond-eq _ _ _ _ p.0 ∙ eq-eqb _ _ p.1))
-
--- record i and the next decide, then those from the next on
-pub ascending-on : (table : List ℕ) (i : ℕ) → i + 1 < length table / 24
-    → ascending (leaves_left table i) ≡ cond (before (leaf table i) (leaf table (i + 1))) (ascending (leaves_left table (i + 1))) false
+-- records that each stand before the next
+ascending-all : (xs : List (List ℕ))
+    → ((k : ℕ) (d : List ℕ) → k + 1 < length xs → true ≡ before (leaf_of (get_or xs k d)) (leaf_of (get_or xs (k + 1) d)))
+    → true ≡ ascending (map leaf_of xs)
 unfolding ascending
-ascending-on table i h =
-    let q = leaves-next table (i + 1) h in
-    ap ascending (leaves-next table i (omega arith) ∙ ap (λ (ls : List Leaf). leaf table i ∷ ls) q)
-    ∙ ap (λ (ls : List Leaf). cond (before (leaf table i) (leaf table (i + 1))) (ascending ls) false) (sym q)
+ascending-all [] h = refl
+ascending-all (x ∷ []) h = refl
+ascending-all (x ∷ (y ∷ xs)) h =
+    let below : true ≡ ascending (map leaf_of (y ∷ xs)) =
+    ascending-all (y ∷ xs) (λ k d l. rw (suc-add k 1) at (h (suc k) d (omega arith))) in
+    rw (← h 0 [] (omega arith)) below
 
--- the last record alone, or none
-pub ascending-end : (table : List ℕ) (i : ℕ) → length table / 24 ≤ i + 1 → ascending (leaves_left table i) ≡ true
-unfolding records ascending
-ascending-end table i h = go (length table / 24 - i) (omega arith)
+-- records of which one does not
+ascending-broken : (xs : List (List ℕ)) (k : ℕ) → k + 1 < length xs
+    → ((d : List ℕ) → false ≡ before (leaf_of (get_or xs k d)) (leaf_of (get_or xs (k + 1) d)))
+    → false ≡ ascending (map leaf_of xs)
+unfolding ascending
+ascending-broken [] k l h = absurd (omega arith)
+ascending-broken (x ∷ []) k l h = absurd (omega arith)
+ascending-broken (x ∷ (y ∷ xs)) zero l h = rw (← h []) refl
+ascending-broken (x ∷ (y ∷ xs)) (suc k) l h =
+    go (before (leaf_of x) (leaf_of y)) (ascending-broken (y ∷ xs) k (omega arith) (λ d. rw (suc-add k 1) at (h d)))
   where
-    go : (m : ℕ) → m ≤ 1 → ascending (records (leaf table) i m) ≡ true
-    go zero l = refl
-    go (suc zero) l = refl
-    go (suc (suc m)) l = absurd (omega arith)
+    go : (b : Bool) → false ≡ ascending (map leaf_of (y ∷ xs)) → false ≡ cond b (ascending (map leaf_of (y ∷ xs))) false
+    go true e = e
+    go false e = refl
+
+-- the library's test of neighbours
+pub ascending-tested : (xs : List (List ℕ)) (r : Bool) → IsAllAdjacentAnswer (λ x y b. b ≡ before (leaf_of x) (leaf_of y)) xs r
+    → r ≡ ascending (map leaf_of xs)
+ascending-tested xs true h = ascending-all xs h
+ascending-tested xs false h = ascending-broken xs h.0 h.1 h.2

@@ -1,11 +1,9 @@
 -- The CPUID table: which tables are taken, and what a lookup finds.
-use Rattle.std.specs.Prelude.{Bool, true, false, not, cond, List, [], ◌∷◌, ℕ, ◌+◌, ◌*◌, ◌/◌, ◌%◌, eqb, ltb, length}
+use Rattle.std.specs.Prelude.{Bool, true, false, not, cond, Option, Some, None, List, [], ◌∷◌, ℕ, ◌+◌, ◌*◌, ◌/◌, ◌%◌, eqb, ltb, length}
 use Rattle.octets.specs.Numbers.{little}
 use Rattle.octets.specs.Parts.{part}
 use Rattle.answers.specs.Rules.{Rule, rule}
 use Rattle.board.specs.Records.{records}
-use Rattle.board.specs.declared.Found.{Found}
-use Rattle.board.specs.declared.Found.TheVariants.{Word, Nothing}
 
 pub record Leaf : Type 0 where
   pub eax_input : ℕ
@@ -58,8 +56,8 @@ abbrev pub register : ℕ → Leaf → ℕ
 register n l = cond (eqb n 0) l.eax (cond (eqb n 1) l.ebx (cond (eqb n 2) l.ecx l.edx))
 
 -- C5: a lookup needs both inputs equal; what the wanted register holds there
-unfoldable pub lookup : List Leaf → ℕ → ℕ → ℕ → Found
-lookup [] eax ecx n = Nothing
+unfoldable pub lookup : List Leaf → ℕ → ℕ → ℕ → Option ℕ
+lookup [] eax ecx n = None
 lookup (l ∷ ls) eax ecx n =
-    cond (eqb l.eax_input eax) (cond (eqb l.ecx_input ecx) (Word (register n l)) (lookup ls eax ecx n))
+    cond (eqb l.eax_input eax) (cond (eqb l.ecx_input ecx) (Some (register n l)) (lookup ls eax ecx n))
     (lookup ls eax ecx n)

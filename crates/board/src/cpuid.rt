@@ -1,121 +1,98 @@
-ghost use Rattle.std.specs.Prelude.{◌≡◌, false, not, cond, ◌+◌, ◌/◌, ◌<◌, eqb, length};
+ghost use Rattle.std.specs.Prelude.{◌≡◌, not, eqb, length, map};
+ghost use Rattle.answers.specs.Codes.{code_of};
 ghost use Rattle.answers.specs.Rules.{first_broken};
 ghost use Rattle.board.specs.Cpuid as spec;
 
-use crate::Found;
-use answers::codes;
-use octets::numbers;
+use answers::codes::Refusal;
+use octets::numbers::Number;
 
 // The bytes of a record of the table.
 const RECORD: usize = 24;
 
-// Whether a CPUID table is taken: 0, or the refusal.
-pub fn table_code(table: &[u8]) -> u64
-    ensures { result ≡ first_broken (spec.table_rules table.now) }
+// Whether a CPUID table is taken.
+pub fn judge_table(table: &[u8]) -> Result<(), Refusal>
+    ensures { code_of result ≡ first_broken (spec.table_rules table.now) }
 {
     if table.len() % RECORD != 0 {
-        return codes::TABLE;
+        return Err(Refusal::Table);
     }
     if 64 < table.len() / RECORD {
-        return codes::TABLE;
+        return Err(Refusal::Table);
     }
     if !ascends(table) {
-        return codes::TABLE;
+        return Err(Refusal::Table);
     }
-    codes::DONE
+    Ok(())
 }
 
 // Whether the unit has the instruction: its table has a record.
 pub fn is_available(table: &[u8]) -> bool
     ensures { result ≡ not (eqb (length (spec.leaves table.now)) 0) }
 {
-    table.len() / RECORD != 0
+    !records(table).is_empty()
 }
 
 // What the result register holds in the record that has both inputs.
-pub fn lookup(table: &[u8], eax: u32, ecx: u32, register: u64) -> Found
+#[tactic(auto, using(crate::proofs::WalkLaws::record_by_record), unfolding(crate::specs::Cpuid::lookup))]
+pub fn lookup(table: &[u8], eax: u32, ecx: u32, register: u64) -> Option<u32>
     ensures { result ≡ spec.lookup (spec.leaves table.now) eax ecx register }
 {
-    let n = table.len() / RECORD;
-    let mut i = 0;
-    while i < n {
-        if has_inputs(table, i, eax, ecx) {
-            return Found::Word(result(table, i, register));
+    let wanted = Inputs { eax, ecx };
+    for record in records(table) {
+        if Inputs::of(record) == wanted {
+            return Some(word(record, register));
         }
-        i += 1;
     }
-    Found::Nothing
-}
-
-// Whether record `i` has both inputs.
-fn has_inputs(table: &[u8], i: usize, eax: u32, ecx: u32) -> bool
-    requires { i < length table.now / 24 }
-    ensures { result ≡ cond (eqb (spec.leaf table.now i).eax_input eax)
-        (eqb (spec.leaf table.now i).ecx_input ecx) false }
-{
-    if eax_input(table, i) == eax {
-        return ecx_input(table, i) == ecx;
-    }
-    false
-}
-
-// The inputs of record `i`.
-fn eax_input(table: &[u8], i: usize) -> u32
-    requires { i < length table.now / 24 }
-    ensures { result ≡ (spec.leaf table.now i).eax_input }
-{
-    numbers::little4(table, RECORD * i)
-}
-
-fn ecx_input(table: &[u8], i: usize) -> u32
-    requires { i < length table.now / 24 }
-    ensures { result ≡ (spec.leaf table.now i).ecx_input }
-{
-    numbers::little4(table, RECORD * i + 4)
-}
-
-// A result register of record `i`.
-fn result(table: &[u8], i: usize, register: u64) -> u32
-    requires { i < length table.now / 24 }
-    ensures { result ≡ spec.register register (spec.leaf table.now i) }
-{
-    let at = RECORD * i;
-    if register == 0 {
-        return numbers::little4(table, at + 8);
-    }
-    if register == 1 {
-        return numbers::little4(table, at + 12);
-    }
-    if register == 2 {
-        return numbers::little4(table, at + 16);
-    }
-    numbers::little4(table, at + 20)
+    None
 }
 
 // Whether each record stands before the next.
 fn ascends(table: &[u8]) -> bool
     ensures { result ≡ spec.ascending (spec.leaves table.now) }
 {
-    let n = table.len() / RECORD;
-    let mut i = 0;
-    while i + 1 < n {
-        if !is_before(table, i) {
-            return false;
-        }
-        i += 1;
-    }
-    true
+    records(table).is_sorted_by(is_before)
 }
 
-// Whether record `i` stands before the next, by EAX input and then ECX input.
-fn is_before(table: &[u8], i: usize) -> bool
-    requires { i + 1 < length table.now / 24 }
-    ensures { result ≡ spec.before (spec.leaf table.now i) (spec.leaf table.now (i + 1)) }
+fn is_before(this: &[u8; RECORD], that: &[u8; RECORD]) -> bool
+    ensures { result ≡ spec.before (spec.leaf this.now 0) (spec.leaf that.now 0) }
 {
-    let this = eax_input(table, i);
-    let that = eax_input(table, i + 1);
-    if this == that {
-        return ecx_input(table, i) < ecx_input(table, i + 1);
+    Inputs::of(this) < Inputs::of(that)
+}
+
+// The records of a table.
+fn records(table: &[u8]) -> &[[u8; RECORD]]
+    ensures { map (λ r. spec.leaf r 0) result.now ≡ spec.leaves table.now }
+{
+    table.as_chunks::<RECORD>().0
+}
+
+// What a record is found by; in order by EAX input and then ECX input.
+#[derive(Clone, Copy, PartialEq, Eq, PartialOrd, Ord)]
+struct Inputs {
+    eax: u32,
+    ecx: u32,
+}
+
+impl Inputs {
+    fn of(leaf: &[u8; RECORD]) -> Inputs
+        ensures eax { result.eax ≡ (spec.leaf leaf.now 0).eax_input }
+        ensures ecx { result.ecx ≡ (spec.leaf leaf.now 0).ecx_input }
+    {
+        Inputs {
+            eax: u32::little(leaf, 0),
+            ecx: u32::little(leaf, 4),
+        }
     }
-    this < that
+}
+
+// A result register of a record.
+fn word(leaf: &[u8; RECORD], register: u64) -> u32
+    ensures { result ≡ spec.register register (spec.leaf leaf.now 0) }
+{
+    match register {
+        0 => u32::little(leaf, 8),
+        1 => u32::little(leaf, 12),
+        2 => u32::little(leaf, 16),
+        _ => u32::little(leaf, 20),
+    }
 }

@@ -1,17 +1,17 @@
 ghost use Rattle.std.specs.Prelude.{◌≡◌};
+ghost use Rattle.answers.specs.Codes.{code_of};
 ghost use Rattle.answers.specs.Rules.{first_broken};
 ghost use Rattle.board.specs.Reach.{mode_rules, limit, reachable};
 
-use answers::codes;
+use answers::codes::Refusal;
 
-// Mode is 32 or 64: 0, or the refusal.
-pub fn mode_code(mode: u64) -> u64
-    ensures { result ≡ first_broken (mode_rules mode) }
+// Mode is 32 or 64.
+pub fn judge_mode(mode: u64) -> Result<(), Refusal>
+    ensures { code_of result ≡ first_broken (mode_rules mode) }
 {
     match mode {
-        32 => codes::DONE,
-        64 => codes::DONE,
-        _ => codes::ARGUMENT,
+        32 | 64 => Ok(()),
+        _ => Err(Refusal::Argument),
     }
 }
 
@@ -29,8 +29,5 @@ pub fn reach_limit(mode: u64) -> u64
 pub fn is_reachable(top: u64, a: u64, n: u64) -> bool
     ensures { result ≡ reachable top a n }
 {
-    if top <= a {
-        return false;
-    }
-    n <= top - a
+    a < top && n <= top - a
 }
