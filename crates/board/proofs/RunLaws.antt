@@ -1,12 +1,11 @@
--- Laws of a run of records, one by one and as the parts of a slice that hold one each.
+-- Laws of a run of records, and of the parts of a slice that hold one record each.
 use mathlib.Core.Path.{◌≡◌, refl, sym, ap, ap₂, subst, ◌∙◌}
-use mathlib.Core.List.{List, [], ◌∷◌}
+use mathlib.Core.List.{List, ◌∷◌}
 use mathlib.Core.Logic.{◌⊎◌, inl, inr}
-use Prim.Native.Nat.{ℕ, zero, suc, ◌+◌, ◌-◌, ◌≤◌, ◌<◌}
+use Prim.Native.Nat.{ℕ, zero, suc, ◌+◌, ◌≤◌, ◌<◌}
 use native.Mathlib.Nat.{eq-or-lt_of_le}
-use native.Mathlib.Numerals.{add-one}
 use native.Mathlib.Omega.{arith}
-use lib.ListN.{length, take, drop}
+use lib.ListN.{take, drop}
 use lib.Seq.{take-take, drop-drop}
 use Rattle.octets.proofs.PartLaws.{part-of-take}
 use Rattle.octets.specs.Parts.{part}
@@ -16,29 +15,12 @@ use Rattle.std.proofs.Math.Nat.{mul-suc, mul-zero}
 use Rattle.board.specs.Records.{records}
 
 module _ {A : Type 0} (read : ℕ → A) where
-  pub length-records : (i n : ℕ) → length (records read i n) ≡ n
-  unfolding records
-  length-records i zero = refl
-  length-records i (suc n) = ap suc (length-records (suc i) n)
-
   -- the first k of n records
   pub take-records : (i n k : ℕ) → k ≤ n → take k (records read i n) ≡ records read i k
   unfolding records
   take-records i n zero h = refl
   take-records i zero (suc k) h = absurd (omega arith)
   take-records i (suc n) (suc k) h = ap (λ (l : List A). read i ∷ l) (take-records (suc i) n k (omega arith))
-
-  -- a loop's next record, and those left behind it
-  pub records-next : (i n : ℕ) → i < n → records read i (n - i) ≡ read i ∷ records read (i + 1) (n - (i + 1))
-  unfolding records
-  records-next i n h =
-      let e : n - i ≡ suc (n - (i + 1)) = omega arith in
-      ap (records read i) e ∙ ap (λ (k : ℕ). read i ∷ records read k (n - (i + 1))) (sym (add-one i))
-
-  -- a loop's end
-  pub records-end : (i n : ℕ) → n ≤ i → records read i (n - i) ≡ []
-  unfolding records
-  records-end i n h = let e : n - i ≡ 0 = omega arith in ap (records read i) e
 
 -- what holds of record i and of the n behind it holds of each of them
 pub each_more : (P : ℕ → Type 0) (i n : ℕ) → P i → ((j : ℕ) → suc i ≤ j → j < suc i + n → P j) → (j : ℕ) → i ≤ j → j < i + suc n → P j

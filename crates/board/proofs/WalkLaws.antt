@@ -56,6 +56,8 @@ leaves-chunks s = records-chunks leaf 24 s alone (length s / 24)
       edx = word i 20 (omega arith) j;
     }
 
+pub ruleset chunks = (regions-chunks, leaves-chunks)
+
 -- ---- a loop over records
 
 -- what the record at i gives, and those behind it

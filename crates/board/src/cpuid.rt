@@ -60,6 +60,7 @@ fn is_before(this: &[u8; RECORD], that: &[u8; RECORD]) -> bool
 }
 
 // The records of a table.
+#[tactic(auto, using(crate::proofs::WalkLaws::chunks))]
 fn records(table: &[u8]) -> &[[u8; RECORD]]
     ensures { map (λ r. spec.leaf r 0) result.now ≡ spec.leaves table.now }
 {

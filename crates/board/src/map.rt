@@ -127,6 +127,7 @@ fn in_order(map: &[u8]) -> bool
 }
 
 // The records of a map.
+#[tactic(auto, using(crate::proofs::WalkLaws::chunks))]
 fn records(bytes: &[u8]) -> &[[u8; RECORD]]
     ensures { map (λ r. spec.region r 0) result.now ≡ spec.regions bytes.now }
 {
