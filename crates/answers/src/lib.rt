@@ -14,14 +14,14 @@ use octets::numbers::Number;
 // The answer record's length in bytes.
 pub const RECORD_LENGTH: usize = 40;
 
-// What a stop says: the code, and the place.
+// What a stop says: the code, and the place; numbers, as the C record has them.
 #[derive(Clone, Copy)]
 pub struct Stop {
     pub code: u64,
     pub place: u64,
 }
 
-// What a call answers.
+// What a call answers; numbers, as the C record has them.
 #[derive(Clone, Copy)]
 pub struct Answer {
     pub code: u64,
