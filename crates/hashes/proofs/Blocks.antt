@@ -1,5 +1,6 @@
 -- Laws of the blocks of a message, over the width: loading one, working in one after the other, and the last one's length field.
-use Rattle.std.proofs.Common.{◌≡◌, ℕ, zero, suc, ◌+◌, ◌*◌, ◌/◌, ◌%◌, ◌^◌, ◌<◌, ◌≤◌, List, [], ◌∷◌, ◌++◌, length, take, drop, set, sym, refl, ap, ◌∙◌, subst, ap₂, add-zero, add_assoc, add-suc, suc-mul, add-mul, add-one, arith, length-append, length-drop, length-set, drop-drop, take-suc-set}
+use Rattle.std.proofs.Common.{◌≡◌, ℕ, zero, suc, ◌+◌, ◌*◌, ◌/◌, ◌%◌, ◌^◌, ◌<◌, ◌≤◌, List, [], ◌∷◌, ◌++◌, length, take, drop, set, sym, refl, ap, ◌∙◌, subst, ap₂, add-zero, add_assoc, add-suc, suc-mul, add-mul, add-one, arith, le_trans, mul-le-mul_right, div-mul-le_self, length-append, length-drop, length-set, drop-drop, take-suc-set}
+use native.Mathlib.Nat.{div_self}
 use lib.Seq.{take-append-le, drop-append-le}
 use Rattle.octets.specs.Numbers.{big, big_bytes}
 use Rattle.octets.specs.Parts.{part, put}
@@ -32,17 +33,16 @@ module _ (P : Width) (s : List ℕ) (at : ℕ) where
   load-none l = record { until = omega arith; room = l; words = refl }
 
   pub load-more : {i x : ℕ} {W : List ℕ} → i < 16 → 16 ≤ P.rounds → Loading P.rounds W i
-      → x ≡ big (part s (at + i * word_bytes P) (word_bytes P))
-      → Loading P.rounds (set W i x) (i + 1)
+      → {n k : ℕ} → n ≡ word_bytes P → k ≡ word_bytes P → x ≡ big (part s (at + i * n) k) → Loading P.rounds (set W i x) (i + 1)
   unfolding words_at
-  load-more {i} {x} {W} l m h e =
+  load-more {i} {x} {W} l m h bn bk e =
       record {
         until = omega arith;
         room = length-set W i x ∙ h.room;
         words =
             ap (λ (k : ℕ). take k (set W i x)) (add-one i)
             ∙ take-suc-set W i x (omega (arith, h.room))
-            ∙ ap₂ (λ (t : List ℕ) (y : ℕ). t ++ (y ∷ [])) h.words e
+            ∙ ap₂ (λ (t : List ℕ) (y : ℕ). t ++ (y ∷ [])) h.words (e ∙ ap₂ (λ (n k : ℕ). big (part s (at + i * n) k)) bn bk)
             ∙ ap (words_at P s at) (sym (add-one i));
       }
 
@@ -73,6 +73,11 @@ words_at-drop P s k at (suc n) =
 
 -- ---- blocks one after the other
 
+-- a block that is counted lies in the message
+pub block-within : (size n i : ℕ) → i < n / size → i * size + size ≤ n
+block-within size n i l =
+    le_trans (omega (arith, suc-mul i size, mul-le-mul_right size l)) (div-mul-le_self n size)
+
 module _ (P : Width) where
   -- a loop that works in n blocks, at i
   pub record Working (H : Eight) (s : List ℕ) (n : ℕ) (v : Eight) (i : ℕ) : Type 0 where
@@ -83,13 +88,17 @@ module _ (P : Width) where
   unfolding after_blocks
   work_none H s n = record { until = omega arith; value = refl }
 
-  pub work-more : (H : Eight) (s : List ℕ) (n i : ℕ) {v r : Eight} → i < n → Working H s n v i → r ≡ compressed P v (block P s i)
-      → Working H s n r (i + 1)
+  pub work-more : (H : Eight) (s : List ℕ) (n i : ℕ) {v r : Eight} → i < n → Working H s n v i → {k : ℕ} → k ≡ block_bytes P
+      → r ≡ compressed P v (words_at P s (i * k) 16) → Working H s n r (i + 1)
   unfolding after_blocks
-  work-more H s n i l h e =
+  work-more H s n i {v} l h b e =
       record {
         until = omega arith;
-        value = e ∙ ap (λ (v : Eight). compressed P v (block P s i)) h.value ∙ ap (after_blocks P H s) (sym (add-one i));
+        value =
+            e
+            ∙ ap (λ (k : ℕ). compressed P v (words_at P s (i * k) 16)) b
+            ∙ ap (λ (v : Eight). compressed P v (block P s i)) h.value
+            ∙ ap (after_blocks P H s) (sym (add-one i));
       }
 
   pub work-all : (H : Eight) (s : List ℕ) (n i : ℕ) {v : Eight} → n ≤ i → Working H s n v i → v ≡ after_blocks P H s n
@@ -100,6 +109,10 @@ module _ (P : Width) where
   pub work-nothing : (H : Eight) (s : List ℕ) {n : ℕ} → n ≡ 0 → H ≡ after_blocks P H s n
   unfolding after_blocks
   work-nothing H s e = sym (ap (after_blocks P H s) e)
+
+  pub work-one : (H : Eight) (s : List ℕ) (size : ℕ) {r : Eight} → 0 < size → length s ≡ size → r ≡ after_blocks P H s (length s / size)
+      → r ≡ after_blocks P H s 1
+  work-one H s size some l e = e ∙ ap (after_blocks P H s) (ap (λ (k : ℕ). k / size) l ∙ div_self some)
 
   pub after_blocks-append : (H : Eight) (s t : List ℕ) (i : ℕ) → i * block_bytes P ≤ length s
       → after_blocks P H (s ++ t) i ≡ after_blocks P H s i

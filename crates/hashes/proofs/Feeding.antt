@@ -1,9 +1,12 @@
 -- Laws of a message that is fed piece by piece, over the width: one piece more, and the padding as its last pieces.
-use Rattle.std.proofs.Common.{◌≡◌, ℕ, suc, ◌+◌, ◌-◌, ◌*◌, ◌/◌, ◌%◌, ◌^◌, ◌<◌, ◌≤◌, List, [], ◌∷◌, ◌++◌, length, take, drop, set, replicate, sym, refl, ap, ◌∙◌, subst, ap₂, append_assoc, mod-eq_of_lt, add-mul, one-mul, div-add-mod', zero-mul, div-mul-le_self, add-one, arith, length-append, length-drop, length-set, take-append-drop, drop_of_length-le, take_all, drop-drop, take_at}
+use Rattle.std.proofs.Common.{◌≡◌, ℕ, zero, suc, suc-mul, mod-lt, ◌+◌, ◌-◌, ◌*◌, ◌/◌, ◌%◌, ◌^◌, ◌<◌, ◌≤◌, List, [], ◌∷◌, ◌++◌, length, take, drop, set, replicate, sym, refl, ap, ◌∙◌, subst, ap₂, append_assoc, mod-eq_of_lt, add-mul, one-mul, div-add-mod', zero-mul, div-mul-le_self, add-one, arith, length-append, length-drop, length-set, take-append-drop, drop_of_length-le, take_all, drop-drop, take_at}
 use native.Mathlib.Nat.{div-eq_of_lt, div_self, mod-add-mod, mod_self}
-use native.Mathlib.Nat.{mul-add-div_right, mul-add-mod_self_right, zero-div, zero-mod}
+use native.Mathlib.Nat.{sub-zero, mul-mod_left, mul-add-div_right, mul-add-mod_self_right, zero-div, zero-mod}
+use Rattle.std.proofs.Math.Nat.{mod-mod_of_dvd}
+use Rattle.std.proofs.lemmas.Nat.Gcd.{dvd_of_mod-eq-zero}
 use lib.ListN.{length-replicate}
 use lib.ListN.{replicate-append-replicate}
+use lib.Arith.{digits_mod}
 use lib.Seq.{drop-append-le, set_split}
 use Rattle.octets.specs.Numbers.{big_bytes}
 use Rattle.octets.specs.Parts.{put}
@@ -14,6 +17,15 @@ use Rattle.hashes.specs.Padding.{word_bytes, block_bytes, field_bytes, zero_byte
 use Rattle.hashes.specs.Compression.{after_blocks, hashed}
 use Rattle.hashes.specs.Progress.{Streamed}
 use Rattle.hashes.proofs.Blocks.{after_blocks-append, after_blocks-drop}
+
+-- what a count modulo 2^64 leaves over blocks
+pub count-rest : (b k : ℕ) {n : ℕ} → 2 ^ 64 % b ≡ 0 → n ≡ k % 2 ^ 64 → n % b ≡ k % b
+count-rest b k d e = ap (λ (j : ℕ). j % b) e ∙ mod-mod_of_dvd b k (dvd_of_mod-eq-zero b d)
+
+-- a count with as many more as fill its last block
+pub filled-border : (b k : ℕ) {a r : ℕ} → 0 < b → r ≡ k % b → a ≡ k + (b - r) → a % b ≡ 0
+filled-border b k some er ea =
+    ap (λ (j : ℕ). j % b) (ea ∙ omega (arith, div-add-mod' k b, mod-lt k some, suc-mul (k / b) b)) ∙ mul-mod_left (suc (k / b)) b
 
 -- a part that goes to the end
 rest_of : (p : List ℕ) (k : ℕ) → take (length p - k) (drop k p) ≡ drop k p
@@ -157,6 +169,38 @@ module _ (P : Width) (some : 0 < word_bytes P) (H : Eight) where
           one : length wait / block_bytes P ≡ 1
           one = ap (λ (m : ℕ). m / block_bytes P) full ∙ div_self (omega arith)
 
+-- ---- what a length leaves over blocks
+
+module _ (P : Width) (some : 0 < word_bytes P) (n : ℕ) {r : ℕ} (er : r ≡ n % block_bytes P) where
+  left-below : (j : ℕ) {a : ℕ} → a ≡ n + j → r + j < block_bytes P → a % block_bytes P ≡ r + j
+  left-below j e l =
+      ap (λ (k : ℕ). k % block_bytes P) (omega (arith, div-add-mod' n (block_bytes P))) ∙ digits_mod (n / block_bytes P) l
+
+  left-beyond : (j k : ℕ) {a : ℕ} → a ≡ n + j → r + j ≡ block_bytes P + k → k < block_bytes P → a % block_bytes P ≡ k
+  left-beyond j k e f l =
+      ap (λ (k : ℕ). k % block_bytes P) (omega (arith, div-add-mod' n (block_bytes P), suc-mul (n / block_bytes P) (block_bytes P)))
+      ∙ digits_mod (suc (n / block_bytes P)) l
+
+  module _ {at : ℕ} (ef : at + field_bytes P ≡ block_bytes P) where
+    -- the zero bytes up to the length field
+    zeros-in-one : (z : ℕ) → r + 1 + z ≡ at → z ≡ zero_bytes P n
+    zeros-in-one zero e =
+        sym
+        (ap (λ (k : ℕ). (block_bytes P - k) % block_bytes P) (left-beyond (1 + field_bytes P) 0 (omega arith) (omega arith) (omega arith))
+        ∙ ap (λ (k : ℕ). k % block_bytes P) (sub-zero (block_bytes P)) ∙ mod_self (block_bytes P))
+    zeros-in-one (suc z) e =
+        sym
+        (ap (λ (k : ℕ). (block_bytes P - k) % block_bytes P) (left-below (1 + field_bytes P) (omega arith) (omega arith))
+        ∙ ap (λ (k : ℕ). k % block_bytes P) (omega arith) ∙ mod-eq_of_lt (omega arith))
+
+    -- the same where they go through a whole block
+    zeros-in-two : (y z : ℕ) → at ≤ r → r + 1 + y ≡ block_bytes P → 1 + z ≡ at → y + suc z ≡ zero_bytes P n
+    zeros-in-two y z l ey ez =
+        sym
+        (ap (λ (k : ℕ). (block_bytes P - k) % block_bytes P)
+        (left-beyond (1 + field_bytes P) (r + 1 + field_bytes P - block_bytes P) (omega arith) (omega arith) (omega arith))
+        ∙ ap (λ (k : ℕ). k % block_bytes P) (omega arith) ∙ mod-eq_of_lt (omega arith))
+
 -- ---- the padding is fed like any piece
 
 module _ (P : Width) (some : 0 < word_bytes P) (H : Eight) {v : Eight} {pending x : List ℕ} {n : ℕ} (h : Streamed P H v pending n x)
@@ -180,27 +224,26 @@ module _ (P : Width) (some : 0 < word_bytes P) (H : Eight) {v : Eight} {pending 
           (h.count ∙ mod-eq_of_lt l)
 
   -- in the pending block, where the field has room behind the byte 0x80
-  pub padded-in-one : {u : Eight} {marked full : List ℕ} (r at z : ℕ) → r ≡ length x % block_bytes P → z ≡ zero_bytes P (length x)
-      → at ≡ (length x + 1 + z) % block_bytes P → r + 1 + z < block_bytes P → at + field_bytes P ≡ block_bytes P
-      → marked ≡ put pending r (0x80 ∷ replicate z 0) → full ≡ put marked at (big_bytes (field_bytes P) (8 * n)) → u ≡ after_blocks P v full 1
-      → u ≡ hashed P H x
-  padded-in-one {u} {marked} {full} r at z er ez ea lr ef em efull eu =
-      closed (fed-open P some H h mark er em refl (omega (arith, length-replicate {A = ℕ} z 0))) refl ez
-      (ea ∙ ap (λ (m : ℕ). m % block_bytes P) (omega (arith, length-append x mark, length-replicate {A = ℕ} z 0))) ef efull eu
+  pub padded-in-one : {u : Eight} {marked full : List ℕ} (r at z : ℕ) → r ≡ length x % block_bytes P → at + field_bytes P ≡ block_bytes P
+      → r + 1 + z ≡ at → marked ≡ put pending r (0x80 ∷ replicate z 0) → full ≡ put marked at (big_bytes (field_bytes P) (8 * n))
+      → u ≡ after_blocks P v full 1 → u ≡ hashed P H x
+  padded-in-one {u} {marked} {full} r at z er ef ez em efull eu =
+      closed (fed-open P some H h mark er em refl (omega (arith, length-replicate {A = ℕ} z 0))) refl (zeros-in-one P some (length x) er ef z ez)
+      (sym (left-below P some (length x) er (1 + z) (omega (arith, length-append x mark, length-replicate {A = ℕ} z 0)) (omega arith) ∙ omega arith)) ef
+      efull eu
     where
       mark : List ℕ
       mark = 0x80 ∷ replicate z 0
 
   -- in the pending block and one more
   pub padded-in-two : {w u : Eight} {first second full : List ℕ} (r at y z : ℕ) → r ≡ length x % block_bytes P
-      → y + suc z ≡ zero_bytes P (length x)
-      → 0 ≡ (length x + 1 + y) % block_bytes P → at ≡ (length x + 1 + y + 1 + z) % block_bytes P → r + 1 + y ≡ block_bytes P
-      → at + field_bytes P ≡ block_bytes P → 1 + z < block_bytes P → first ≡ put pending r (0x80 ∷ replicate y 0) → w ≡ after_blocks P v first 1
-      → second ≡ put first 0 (0 ∷ replicate z 0) → full ≡ put second at (big_bytes (field_bytes P) (8 * n)) → u ≡ after_blocks P w full 1
-      → u ≡ hashed P H x
-  padded-in-two {w} {u} {first} {second} {full} r at y z er ez e0 ea lr ef lz ey ew es efull eu =
-      closed begun joined ez
-      (ea ∙ ap (λ (m : ℕ). m % block_bytes P) (omega (arith, length_both, length-append (x ++ mark) zeros, length-replicate {A = ℕ} z 0))) ef
+      → at + field_bytes P ≡ block_bytes P → at ≤ r → r + 1 + y ≡ block_bytes P → 1 + z ≡ at
+      → first ≡ put pending r (0x80 ∷ replicate y 0) → w ≡ after_blocks P v first 1 → second ≡ put first 0 (0 ∷ replicate z 0)
+      → full ≡ put second at (big_bytes (field_bytes P) (8 * n)) → u ≡ after_blocks P w full 1 → u ≡ hashed P H x
+  padded-in-two {w} {u} {first} {second} {full} r at y z er ef lr ey ez efirst ew es efull eu =
+      closed begun joined (zeros-in-two P some (length x) er ef y z lr ey ez)
+      (sym (left-beyond P some (length x) er (1 + y + 1 + z) at (omega (arith, length_both, length-append (x ++ mark) zeros, length-replicate {A = ℕ} z 0))
+      (omega arith) (omega arith))) ef
       efull eu
     where
       mark : List ℕ
@@ -213,11 +256,11 @@ module _ (P : Width) (some : 0 < word_bytes P) (H : Eight) {v : Eight} {pending 
       length_both = omega (arith, length-append x mark, length-replicate {A = ℕ} y 0)
 
       filled : Streamed P H w first ((n + length mark) % 2 ^ 64) (x ++ mark)
-      filled = fed-full P some H h mark er ey refl (omega (arith, length-replicate {A = ℕ} y 0)) ew
+      filled = fed-full P some H h mark er efirst refl (omega (arith, length-replicate {A = ℕ} y 0)) ew
 
       begun : Streamed P H w second (((n + length mark) % 2 ^ 64 + length zeros) % 2 ^ 64) (x ++ mark ++ zeros)
       begun =
-          fed-open P some H filled zeros (e0 ∙ ap (λ (m : ℕ). m % block_bytes P) (sym length_both)) es refl
+          fed-open P some H filled zeros (sym (left-beyond P some (length x) er (1 + y) 0 (omega (arith, length_both)) (omega arith) (omega arith))) es refl
           (omega (arith, length-replicate {A = ℕ} z 0))
 
       joined : x ++ mark ++ zeros ≡ x ++ (0x80 ∷ replicate (y + suc z) 0)

@@ -164,15 +164,19 @@ rotr-chained w a b x y l m hx hy =
     ∙ ap (bit_xor (rotr w a x)) (rotr-rotr w a (b - a) y (omega arith) hy ∙ ap (λ (n : ℕ). rotr w n y) (add-sub_of_le l))
 
 module _ (w : ℕ) (n : Amounts) (x : ℕ) (h : x < 2 ^ w) where
-  pub big-sigma-chained : n.first ≤ n.second → n.second ≤ n.third → n.third ≤ w
-      → rotr w n.first (bit_xor x (rotr w (n.second - n.first) (bit_xor x (rotr w (n.third - n.second) x)))) ≡ big_sigma w n x
-  big-sigma-chained l m o =
-      rotr-chained w n.first n.second x (bit_xor x (rotr w (n.third - n.second) x)) l (omega arith) h
+  pub big-sigma-chained : n.first ≤ n.second → n.second ≤ n.third → n.third ≤ w → {p q r : ℕ} → p ≡ rotr w (n.third - n.second) x
+      → q ≡ rotr w (n.second - n.first) (bit_xor x p) → r ≡ rotr w n.first (bit_xor x q) → r ≡ big_sigma w n x
+  big-sigma-chained l m o ep eq er =
+      er
+      ∙ ap (λ (s : ℕ). rotr w n.first (bit_xor x s)) (eq ∙ ap (λ (s : ℕ). rotr w (n.second - n.first) (bit_xor x s)) ep)
+      ∙ rotr-chained w n.first n.second x (bit_xor x (rotr w (n.third - n.second) x)) l (omega arith) h
       (xor_lt w x (rotr w (n.third - n.second) x) h (rotr-lt w (n.third - n.second) x h))
       ∙ ap (bit_xor (rotr w n.first x)) (rotr-chained w n.second n.third x x m o h h)
       ∙ sym (xor_assoc w (rotr w n.first x) (rotr w n.second x) (rotr w n.third x) (rotr-lt w n.first x h)
       (rotr-lt w n.second x h) (rotr-lt w n.third x h))
 
-  pub small-sigma-chained : n.first ≤ n.second → n.second ≤ w
-      → bit_xor (rotr w n.first (bit_xor x (rotr w (n.second - n.first) x))) (shr n.third x) ≡ small_sigma w n x
-  small-sigma-chained l m = ap (λ (s : ℕ). bit_xor s (shr n.third x)) (rotr-chained w n.first n.second x x l m h h)
+  pub small-sigma-chained : n.first ≤ n.second → n.second ≤ w → {p q : ℕ} → p ≡ rotr w (n.second - n.first) x
+      → q ≡ rotr w n.first (bit_xor x p) → bit_xor q (shr n.third x) ≡ small_sigma w n x
+  small-sigma-chained l m ep eq =
+      ap (λ (s : ℕ). bit_xor s (shr n.third x))
+      (eq ∙ ap (λ (s : ℕ). rotr w n.first (bit_xor x s)) ep ∙ rotr-chained w n.first n.second x x l m h h)

@@ -1,8 +1,9 @@
 -- Laws of the schedule and the rounds of a block, over the width.
-use Rattle.std.proofs.Common.{◌≡◌, ℕ, zero, suc, ◌+◌, ◌-◌, ◌%◌, ◌^◌, ◌<◌, ◌≤◌, ◌⊎◌, List, [], ◌∷◌, length, get_or, take, set, sym, refl, ap, ◌∙◌, subst, ap₂, ⊎_elim, add-zero, add-suc, add-sub_of_le, eq-or-lt_of_le, add-one, arith, length-append, length-set, get_or-set_other, get_or-take, get_or-set_same}
+use Rattle.std.proofs.Common.{◌≡◌, ℕ, zero, suc, ◌+◌, ◌-◌, ◌%◌, ◌^◌, ◌<◌, ◌≤◌, ◌⊎◌, List, [], ◌∷◌, length, get_or, map, take, set, sym, refl, ap, ◌∙◌, subst, ap₂, ⊎_elim, add-zero, add-suc, add-sub_of_le, eq-or-lt_of_le, add-one, arith, length-append, length-set, get_or-set_other, get_or-take, get_or-set_same}
 use native.Mathlib.Nat.{add-mod-mod, mod-add-mod}
 use lib.ListN.{get_or-append}
 use lib.Seq.{get_or_at}
+use Rattle.std.proofs.lemmas.List.{get_or-map, map-set}
 use Rattle.hashes.specs.Words.{add, ch, big_sigma, small_sigma}
 use Rattle.hashes.specs.Widths.{Width, Eight}
 use Rattle.hashes.specs.Compression.{mixed, next_word, with_next, scheduled, schedule, T₁, T₂, round, after_rounds, summed, compressed}
@@ -48,6 +49,20 @@ pub mixed-of : (P : Width) (x y z u : ℕ) {s p t q r : ℕ} → s ≡ small_sig
     → q ≡ add P.w p t → r ≡ add P.w q u → r ≡ mixed P x y z u
 mixed-of P x y z u es ep et eq er =
     er ∙ ap (λ (n : ℕ). add P.w n u) (eq ∙ ap₂ (add P.w) (ep ∙ ap (λ (n : ℕ). add P.w n y) es) et)
+
+-- the same of words that stand in the schedule
+pub next-of : (P : Width) (W : List ℕ) (t : ℕ) {x y z u r : ℕ} → r ≡ mixed P x y z u → x ≡ get_or W (t + 14) 0 → y ≡ get_or W (t + 9) 0
+    → z ≡ get_or W (t + 1) 0 → u ≡ get_or W t 0 → r ≡ next_word P W t
+next-of P W t er ex ey ez eu = er ∙ rw (ex, ey, ez, eu)
+
+-- ---- words of any type, by their values
+
+module _ {X : Type 0} (value : X → ℕ) (xs : List X) (i : ℕ) (x : X) where
+  pub value-at : x ≡ get_or xs i x → i < length xs → value x ≡ get_or (map value xs) i 0
+  value-at e l = ap value e ∙ sym (get_or-map value xs i x 0 l)
+
+  pub values-set : set (map value xs) i (value x) ≡ map value (set xs i x)
+  values-set = sym (map-set value xs i x)
 
 -- ---- the schedule
 

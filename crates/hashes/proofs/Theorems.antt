@@ -2,6 +2,7 @@
 use Rattle.std.proofs.Common.{◌≡◌, ℕ, ◌+◌, ◌-◌, ◌*◌, ◌/◌, ◌%◌, ◌^◌, ◌<◌, ◌≤◌, List, [], ◌∷◌, ◌++◌, length, replicate, sym, refl, ap, ◌∙◌, subst, append_assoc, append-nil, mod-lt, div-add-mod', arith, length-append}
 use mathlib.Core.List.{flatten}
 use native.Mathlib.Nat.{add-mod-mod, add-mod_right, mod-le, mod_self, mul-mod_left, sub-zero}
+use Rattle.std.proofs.lemmas.List.{nil_from_length}
 use lib.Arith.{digits_mod}
 use lib.ListN.{length-replicate}
 use Rattle.octets.specs.Numbers.{little, little_bytes, big_bytes}
@@ -47,6 +48,10 @@ digest_length-high i l = length-by i (has-none (omega arith) (omega arith) (omeg
 -- a digest and the zeros behind it are 64 bytes
 pub digest-in-sixty-four : (i : ℕ) (m : List ℕ) → length (in_sixty_four (digest i m)) ≡ 64
 digest-in-sixty-four i m = length-in_sixty_four (digest i m) (omega (arith, length-digest i m, digest_length-most i))
+
+-- the digest of an ID that has none is zeros
+pub no-digest : (i : ℕ) (m : List ℕ) → digest_length i ≡ 0 → in_sixty_four (digest i m) ≡ replicate 64 0
+no-digest i m e = ap in_sixty_four (nil_from_length (digest i m) (length-digest i m ∙ e))
 
 -- two results that the promise of the call `digest` allows are equal: the 64 bytes and the length
 pub digest-determined : (i : ℕ) (m : List ℕ) {x y : List ℕ} {n k : ℕ} → x ≡ in_sixty_four (digest i m) → n ≡ digest_length i

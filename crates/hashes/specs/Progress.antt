@@ -1,14 +1,14 @@
 -- How far the code has come: in the rounds of a block, and in a message that is fed piece by piece.
 use Rattle.std.specs.Prelude.{◌≡◌, ℕ, ◌+◌, ◌*◌, ◌/◌, ◌%◌, ◌^◌, ◌<◌, List, ◌++◌, length, take, drop, slice_index}
 use Rattle.hashes.specs.declared.Hasher.{Hasher}
-use Rattle.hashes.specs.declared.narrow.Stream.{Stream as Narrow}
-use Rattle.hashes.specs.declared.wide.Stream.{Stream as Wide}
+use Rattle.hashes.specs.declared.Hasher.TheVariants.{Sha256, Sha384, Sha512, Unknown}
+use Rattle.hashes.specs.declared.stream.Stream.{Stream}
 use Rattle.hashes.specs.Widths.{Width, Eight}
 use Rattle.hashes.specs.Tables.{narrow, wide, initial256, initial384, initial512}
 use Rattle.hashes.specs.Padding.{block_bytes}
 use Rattle.hashes.specs.Compression.{schedule, after_rounds, after_blocks}
 use Rattle.hashes.specs.Digests.{digest, digest_length}
-use Rattle.hashes.specs.Code.{narrow_words, wide_words, in_sixty_four}
+use Rattle.hashes.specs.Code.{plain, in_sixty_four}
 
 -- t rounds of the block M from the hash value H on: the working variables are v, and W has the schedule's words up to t + 16
 pub record Rounds (P : Width) (H : Eight) (M : List ℕ) (t : ℕ) (v : Eight) (W : List ℕ) : Type 0 where
@@ -28,18 +28,16 @@ pub record Streamed (P : Width) (H : Eight) (v : Eight) (pending : List ℕ) (n 
   pub value : v ≡ after_blocks P H x (length x / block_bytes P)
   pub behind : take (length x % block_bytes P) pending ≡ drop (length x / block_bytes P * block_bytes P) x
 
-abbrev pub NarrowFed : Eight → Narrow → List ℕ → Type 0
-NarrowFed H s x = Streamed narrow H (narrow_words s.words) s.pending s.length x
-
-abbrev pub WideFed : Eight → Wide → List ℕ → Type 0
-WideFed H s x = Streamed wide H (wide_words s.words) s.pending s.length x
+-- the same of a stream, whose hash values have these words
+abbrev pub StreamFed : {S : Type 0} {n : ℕ} → Width → (S → Eight) → Eight → Stream S n → List ℕ → Type 0
+StreamFed P words H s x = Streamed P H (words s.words) s.pending s.length x
 
 -- a hasher that was begun by the hash ID i and fed the bytes x
-pub record Fed (h : Hasher) (i : ℕ) (x : List ℕ) : Type 0 where
-  pub begun : h.id ≡ i
-  pub by_2 : i ≡ 2 → NarrowFed initial256 h.narrow x
-  pub by-3 : i ≡ 3 → WideFed initial384 h.wide x
-  pub by_4 : i ≡ 4 → WideFed initial512 h.wide x
+abbrev pub Fed : Hasher → ℕ → List ℕ → Type 0
+Fed (Sha256 s) i x = (i ≡ 2) × StreamFed narrow plain initial256 s x
+Fed (Sha384 s) i x = (i ≡ 3) × StreamFed wide plain initial384 s x
+Fed (Sha512 s) i x = (i ≡ 4) × StreamFed wide plain initial512 s x
+Fed Unknown i x = digest_length i ≡ 0
 
 -- a hasher fed a piece p more, whatever it was fed before
 abbrev pub Feeds : Hasher → List ℕ → Hasher → Type 0

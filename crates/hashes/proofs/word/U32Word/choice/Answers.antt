@@ -1,0 +1,6 @@
+use Rattle.hashes.specs.Tables.{narrow}
+use Rattle.hashes.proofs.Identities.{ch-short}
+use Rattle.hashes.proofs.word.U32Word.choice.Goals as goal
+
+pub returns : goal.returns
+returns c = ch-short narrow.w c.args.self c.args.y c.args.z c.ranges.self.fits c.ranges.y.fits c.ranges.z.fits

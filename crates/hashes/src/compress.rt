@@ -1,0 +1,244 @@
+// The compression function: the schedule and the rounds of a block, at either width of the words.
+ghost use Rattle.std.specs.Prelude.{◌≡◌, ℕ, ◌+◌, ◌-◌, ◌*◌, ◌/◌, ◌%◌, ◌^◌, ◌<◌, ◌≤◌, List, length, map, slice_index};
+ghost use Rattle.hashes.specs.Widths.{Eight, in_order};
+ghost use Rattle.hashes.specs.Padding.{words_at, block_bytes};
+ghost use Rattle.hashes.specs.Compression.{mixed, T₁, T₂, round, summed, compressed, after_blocks};
+ghost use Rattle.hashes.specs.Code.{words, first_words};
+ghost use Rattle.hashes.specs.Progress.{Rounds, Leads};
+
+use crate::word::Word;
+use octets::numbers::Number;
+
+// A hash value, or the working variables of the rounds.
+#[derive(Clone, Copy)]
+pub struct State<W> {
+    pub a: W,
+    pub b: W,
+    pub c: W,
+    pub d: W,
+    pub e: W,
+    pub f: W,
+    pub g: W,
+    pub h: W,
+}
+
+impl<W: Word> State<W> {
+    // The hash value with every whole block of `bytes` worked in, by the constants `k` and with `w` to write the schedule in.
+    #[inline(always)]
+    pub fn worked_in(self, bytes: &[u8], k: &[W], w: &mut [W]) -> State<W>
+        requires k_value { map W.value k.now ≡ W.width.K }
+        requires k_len { length k.now ≡ W.width.rounds }
+        requires w_len { length w.old ≡ W.width.rounds }
+        ensures { words W.value result ≡ after_blocks W.width (words W.value self) bytes.now (length bytes.now / block_bytes W.width) }
+    {
+        let size = 16 * W::BYTES;
+        let mut v = self;
+        for i in 0..bytes.len() / size {
+            v = v.block(bytes, i * size, k, w);
+        }
+        v
+    }
+
+    // The hash value with the block at offset `at` worked in.
+    #[inline(always)]
+    fn block(self, bytes: &[u8], at: usize, k: &[W], w: &mut [W]) -> State<W>
+        requires at_in_bounds { at + block_bytes W.width ≤ length bytes.now }
+        requires k_value { map W.value k.now ≡ W.width.K }
+        requires k_len { length k.now ≡ W.width.rounds }
+        requires w_len { length w.old ≡ W.width.rounds }
+        ensures value { words W.value result ≡ compressed W.width (words W.value self) (words_at W.width bytes.now at 16) }
+        ensures w_len { length w.new ≡ W.width.rounds }
+    {
+        load(w, bytes, at);
+        let x = early_rounds(self, w, k);
+        let y = late_rounds(x, w, k);
+        y.plus(self)
+    }
+
+    // The first `n` words as bytes, and zeros.
+    pub fn put_words(self, out: &mut [u8; 64], n: usize)
+        requires { n ≤ 8 }
+        ensures { out.new ≡ first_words W.width (words W.value self) n }
+    {
+        octets::parts::fill(out, 0, 64, 0);
+        for i in 0..n {
+            self.word(i).put_big(out, i * W::BYTES);
+        }
+    }
+
+    // An array of words would do, but its size is not known while their type is not.
+    fn word(self, i: usize) -> W
+        requires { i < 8 }
+        ensures { W.value result ≡ slice_index (in_order (words W.value self)) i }
+    {
+        match i {
+            0 => self.a,
+            1 => self.b,
+            2 => self.c,
+            3 => self.d,
+            4 => self.e,
+            5 => self.f,
+            6 => self.g,
+            _ => self.h,
+        }
+    }
+
+    // The constant and the word are added first: they wait for no other round.
+    #[inline(always)]
+    fn t1(self, k: W, w: W) -> W
+        ensures { W.value result ≡ T₁ W.width (W.value k) (W.value w) (words W.value self) }
+    {
+        let x = self.h.plus(k.plus(w));
+        let y = x.plus(self.e.choice(self.f, self.g));
+        y.plus(self.e.big_sigma_1())
+    }
+
+    #[inline(always)]
+    fn t2(self) -> W
+        ensures { W.value result ≡ T₂ W.width (words W.value self) }
+    {
+        self.a.big_sigma_0().plus(self.a.majority(self.b, self.c))
+    }
+
+    #[inline(always)]
+    fn round(self, k: W, w: W) -> State<W>
+        ensures { words W.value result ≡ round W.width (W.value k) (W.value w) (words W.value self) }
+    {
+        let t1 = self.t1(k, w);
+        let t2 = self.t2();
+        State {
+            a: t1.plus(t2),
+            b: self.a,
+            c: self.b,
+            d: self.c,
+            e: self.d.plus(t1),
+            f: self.e,
+            g: self.f,
+            h: self.g,
+        }
+    }
+
+    // The working variables `self` added to the hash value `to`.
+    #[inline(always)]
+    fn plus(self, to: State<W>) -> State<W>
+        ensures { words W.value result ≡ summed W.width (words W.value self) (words W.value to) }
+    {
+        State {
+            a: self.a.plus(to.a),
+            b: self.b.plus(to.b),
+            c: self.c.plus(to.c),
+            d: self.d.plus(to.d),
+            e: self.e.plus(to.e),
+            f: self.f.plus(to.f),
+            g: self.g.plus(to.g),
+            h: self.h.plus(to.h),
+        }
+    }
+}
+
+// The block's 16 words.
+#[inline(always)]
+fn load<W: Word>(w: &mut [W], bytes: &[u8], at: usize)
+    requires at_in_bounds { at + block_bytes W.width ≤ length bytes.now }
+    requires w_len { length w.old ≡ W.width.rounds }
+    ensures { (H : Eight) → Rounds W.width H (words_at W.width bytes.now at 16) 0 H (map W.value w.new) }
+{
+    for i in 0..16 {
+        w[i] = W::big(bytes, at + i * W::BYTES);
+    }
+}
+
+// The rounds that a later word comes with.
+#[inline(always)]
+fn early_rounds<W: Word>(s: State<W>, w: &mut [W], k: &[W]) -> State<W>
+    requires k_value { map W.value k.now ≡ W.width.K }
+    requires k_len { length k.now ≡ W.width.rounds }
+    requires w_len { length w.old ≡ W.width.rounds }
+    ensures leads { Leads W.width 0 (words W.value s) (map W.value w.old) (W.width.rounds - 16) (words W.value result) (map W.value w.new) }
+    ensures w_len { length w.new ≡ W.width.rounds }
+{
+    let mut v = s;
+    for i in (0..w.len() - 16).step_by(4) {
+        v = early_four(v, w, k, i);
+    }
+    v
+}
+
+#[inline(always)]
+fn late_rounds<W: Word>(s: State<W>, w: &[W], k: &[W]) -> State<W>
+    requires k_value { map W.value k.now ≡ W.width.K }
+    requires k_len { length k.now ≡ W.width.rounds }
+    requires w_len { length w.now ≡ W.width.rounds }
+    ensures { Leads W.width (W.width.rounds - 16) (words W.value s) (map W.value w.now) W.width.rounds (words W.value result) (map W.value w.now) }
+{
+    let mut v = s;
+    for i in (w.len() - 16..w.len()).step_by(4) {
+        v = late_four(v, w, k, i);
+    }
+    v
+}
+
+// Four rounds at once: the compiler then keeps the eight words where they are.
+#[inline(always)]
+fn early_four<W: Word>(s: State<W>, w: &mut [W], k: &[W], i: usize) -> State<W>
+    requires i_bound { i + 19 < W.width.rounds }
+    requires k_value { map W.value k.now ≡ W.width.K }
+    requires k_len { length k.now ≡ W.width.rounds }
+    requires w_len { length w.old ≡ W.width.rounds }
+    ensures leads { Leads W.width i (words W.value s) (map W.value w.old) (i + 4) (words W.value result) (map W.value w.new) }
+    ensures w_len { length w.new ≡ W.width.rounds }
+{
+    let x = early_round(s, w, k, i);
+    let y = early_round(x, w, k, i + 1);
+    let z = early_round(y, w, k, i + 2);
+    early_round(z, w, k, i + 3)
+}
+
+// Round i, and the word that round i + 16 will want.
+#[inline(always)]
+fn early_round<W: Word>(s: State<W>, w: &mut [W], k: &[W], i: usize) -> State<W>
+    requires i_bound { i + 16 < W.width.rounds }
+    requires k_value { map W.value k.now ≡ W.width.K }
+    requires k_len { length k.now ≡ W.width.rounds }
+    requires w_len { length w.old ≡ W.width.rounds }
+    ensures leads { Leads W.width i (words W.value s) (map W.value w.old) (i + 1) (words W.value result) (map W.value w.new) }
+    ensures w_len { length w.new ≡ W.width.rounds }
+{
+    let r = s.round(k[i], w[i]);
+    w[i + 16] = next_word(w[i + 14], w[i + 9], w[i + 1], w[i]);
+    r
+}
+
+#[inline(always)]
+fn late_four<W: Word>(s: State<W>, w: &[W], k: &[W], i: usize) -> State<W>
+    requires le_i { (W.width.rounds ≤ i + 16) × (i + 3 < W.width.rounds) }
+    requires k_value { map W.value k.now ≡ W.width.K }
+    requires k_len { length k.now ≡ W.width.rounds }
+    requires w_len { length w.now ≡ W.width.rounds }
+    ensures { Leads W.width i (words W.value s) (map W.value w.now) (i + 4) (words W.value result) (map W.value w.now) }
+{
+    let x = late_round(s, w, k, i);
+    let y = late_round(x, w, k, i + 1);
+    let z = late_round(y, w, k, i + 2);
+    late_round(z, w, k, i + 3)
+}
+
+// Round i, where every word is there.
+#[inline(always)]
+fn late_round<W: Word>(s: State<W>, w: &[W], k: &[W], i: usize) -> State<W>
+    requires le_i { (W.width.rounds ≤ i + 16) × (i < W.width.rounds) }
+    requires k_value { map W.value k.now ≡ W.width.K }
+    requires k_len { length k.now ≡ W.width.rounds }
+    requires w_len { length w.now ≡ W.width.rounds }
+    ensures { Leads W.width i (words W.value s) (map W.value w.now) (i + 1) (words W.value result) (map W.value w.now) }
+{
+    s.round(k[i], w[i])
+}
+
+// The schedule's next word, of the words 2, 7, 15 and 16 before it.
+#[inline(always)]
+fn next_word<W: Word>(x: W, y: W, z: W, u: W) -> W
+    ensures { W.value result ≡ mixed W.width (W.value x) (W.value y) (W.value z) (W.value u) }
+{
+    x.small_sigma_1().plus(y).plus(z.small_sigma_0()).plus(u)
+}
