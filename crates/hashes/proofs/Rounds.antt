@@ -58,8 +58,8 @@ next-of P W t er ex ey ez eu = er ∙ rw (ex, ey, ez, eu)
 -- ---- words of any type, by their values
 
 module _ {X : Type 0} (value : X → ℕ) (xs : List X) (i : ℕ) (x : X) where
-  pub value-at : x ≡ get_or xs i x → i < length xs → value x ≡ get_or (map value xs) i 0
-  value-at e l = ap value e ∙ sym (get_or-map value xs i x 0 l)
+  pub value-at : i < length xs → value (get_or xs i x) ≡ get_or (map value xs) i 0
+  value-at l = sym (get_or-map value xs i x 0 l)
 
   pub values-set : set (map value xs) i (value x) ≡ map value (set xs i x)
   values-set = sym (map-set value xs i x)

@@ -22,13 +22,24 @@ pub struct State<W> {
     pub h: W,
 }
 
+// The constants of the rounds.
+#[derive(Drop)]
+pub struct Constants<'a, W: Word, const R: usize> {
+    pub k: &'a [W; R],
+    ghost table: { map W.value k.now ≡ W.width.K },
+    ghost length_known: { length k.now ≡ R },
+    ghost rounds: { R ≡ W.width.rounds },
+}
+
 impl<W: Word> State<W> {
     // The hash value with every whole block of `bytes` worked in, by the constants `k` and with `w` to write the schedule in.
     #[inline(always)]
-    pub fn worked_in(self, bytes: &[u8], k: &[W], w: &mut [W]) -> State<W>
-        requires k_value { map W.value k.now ≡ W.width.K }
-        requires k_len { length k.now ≡ W.width.rounds }
-        requires w_len { length w.old ≡ W.width.rounds }
+    pub fn worked_in<const R: usize>(
+        self,
+        bytes: &[u8],
+        k: &Constants<W, R>,
+        w: &mut [W; R],
+    ) -> State<W>
         ensures { words W.value result ≡ after_blocks W.width (words W.value self) bytes.now (length bytes.now / block_bytes W.width) }
     {
         let size = 16 * W::BYTES;
@@ -41,13 +52,15 @@ impl<W: Word> State<W> {
 
     // The hash value with the block at offset `at` worked in.
     #[inline(always)]
-    fn block(self, bytes: &[u8], at: usize, k: &[W], w: &mut [W]) -> State<W>
+    fn block<const R: usize>(
+        self,
+        bytes: &[u8],
+        at: usize,
+        k: &Constants<W, R>,
+        w: &mut [W; R],
+    ) -> State<W>
         requires at_in_bounds { at + block_bytes W.width ≤ length bytes.now }
-        requires k_value { map W.value k.now ≡ W.width.K }
-        requires k_len { length k.now ≡ W.width.rounds }
-        requires w_len { length w.old ≡ W.width.rounds }
-        ensures value { words W.value result ≡ compressed W.width (words W.value self) (words_at W.width bytes.now at 16) }
-        ensures w_len { length w.new ≡ W.width.rounds }
+        ensures { words W.value result ≡ compressed W.width (words W.value self) (words_at W.width bytes.now at 16) }
     {
         load(w, bytes, at);
         let x = early_rounds(self, w, k);
@@ -138,9 +151,9 @@ impl<W: Word> State<W> {
 
 // The block's 16 words.
 #[inline(always)]
-fn load<W: Word>(w: &mut [W], bytes: &[u8], at: usize)
+fn load<W: Word, const R: usize>(w: &mut [W; R], bytes: &[u8], at: usize)
+    requires rounds { R ≡ W.width.rounds }
     requires at_in_bounds { at + block_bytes W.width ≤ length bytes.now }
-    requires w_len { length w.old ≡ W.width.rounds }
     ensures { (H : Eight) → Rounds W.width H (words_at W.width bytes.now at 16) 0 H (map W.value w.new) }
 {
     for i in 0..16 {
@@ -150,12 +163,12 @@ fn load<W: Word>(w: &mut [W], bytes: &[u8], at: usize)
 
 // The rounds that a later word comes with.
 #[inline(always)]
-fn early_rounds<W: Word>(s: State<W>, w: &mut [W], k: &[W]) -> State<W>
-    requires k_value { map W.value k.now ≡ W.width.K }
-    requires k_len { length k.now ≡ W.width.rounds }
-    requires w_len { length w.old ≡ W.width.rounds }
-    ensures leads { Leads W.width 0 (words W.value s) (map W.value w.old) (W.width.rounds - 16) (words W.value result) (map W.value w.new) }
-    ensures w_len { length w.new ≡ W.width.rounds }
+fn early_rounds<W: Word, const R: usize>(
+    s: State<W>,
+    w: &mut [W; R],
+    k: &Constants<W, R>,
+) -> State<W>
+    ensures { Leads W.width 0 (words W.value s) (map W.value w.old) (W.width.rounds - 16) (words W.value result) (map W.value w.new) }
 {
     let mut v = s;
     for i in (0..w.len() - 16).step_by(4) {
@@ -165,10 +178,7 @@ fn early_rounds<W: Word>(s: State<W>, w: &mut [W], k: &[W]) -> State<W>
 }
 
 #[inline(always)]
-fn late_rounds<W: Word>(s: State<W>, w: &[W], k: &[W]) -> State<W>
-    requires k_value { map W.value k.now ≡ W.width.K }
-    requires k_len { length k.now ≡ W.width.rounds }
-    requires w_len { length w.now ≡ W.width.rounds }
+fn late_rounds<W: Word, const R: usize>(s: State<W>, w: &[W; R], k: &Constants<W, R>) -> State<W>
     ensures { Leads W.width (W.width.rounds - 16) (words W.value s) (map W.value w.now) W.width.rounds (words W.value result) (map W.value w.now) }
 {
     let mut v = s;
@@ -180,13 +190,14 @@ fn late_rounds<W: Word>(s: State<W>, w: &[W], k: &[W]) -> State<W>
 
 // Four rounds at once: the compiler then keeps the eight words where they are.
 #[inline(always)]
-fn early_four<W: Word>(s: State<W>, w: &mut [W], k: &[W], i: usize) -> State<W>
+fn early_four<W: Word, const R: usize>(
+    s: State<W>,
+    w: &mut [W; R],
+    k: &Constants<W, R>,
+    i: usize,
+) -> State<W>
     requires i_bound { i + 19 < W.width.rounds }
-    requires k_value { map W.value k.now ≡ W.width.K }
-    requires k_len { length k.now ≡ W.width.rounds }
-    requires w_len { length w.old ≡ W.width.rounds }
-    ensures leads { Leads W.width i (words W.value s) (map W.value w.old) (i + 4) (words W.value result) (map W.value w.new) }
-    ensures w_len { length w.new ≡ W.width.rounds }
+    ensures { Leads W.width i (words W.value s) (map W.value w.old) (i + 4) (words W.value result) (map W.value w.new) }
 {
     let x = early_round(s, w, k, i);
     let y = early_round(x, w, k, i + 1);
@@ -196,25 +207,28 @@ fn early_four<W: Word>(s: State<W>, w: &mut [W], k: &[W], i: usize) -> State<W>
 
 // Round i, and the word that round i + 16 will want.
 #[inline(always)]
-fn early_round<W: Word>(s: State<W>, w: &mut [W], k: &[W], i: usize) -> State<W>
+fn early_round<W: Word, const R: usize>(
+    s: State<W>,
+    w: &mut [W; R],
+    k: &Constants<W, R>,
+    i: usize,
+) -> State<W>
     requires i_bound { i + 16 < W.width.rounds }
-    requires k_value { map W.value k.now ≡ W.width.K }
-    requires k_len { length k.now ≡ W.width.rounds }
-    requires w_len { length w.old ≡ W.width.rounds }
-    ensures leads { Leads W.width i (words W.value s) (map W.value w.old) (i + 1) (words W.value result) (map W.value w.new) }
-    ensures w_len { length w.new ≡ W.width.rounds }
+    ensures { Leads W.width i (words W.value s) (map W.value w.old) (i + 1) (words W.value result) (map W.value w.new) }
 {
-    let r = s.round(k[i], w[i]);
+    let r = s.round(k.k[i], w[i]);
     w[i + 16] = next_word(w[i + 14], w[i + 9], w[i + 1], w[i]);
     r
 }
 
 #[inline(always)]
-fn late_four<W: Word>(s: State<W>, w: &[W], k: &[W], i: usize) -> State<W>
+fn late_four<W: Word, const R: usize>(
+    s: State<W>,
+    w: &[W; R],
+    k: &Constants<W, R>,
+    i: usize,
+) -> State<W>
     requires le_i { (W.width.rounds ≤ i + 16) × (i + 3 < W.width.rounds) }
-    requires k_value { map W.value k.now ≡ W.width.K }
-    requires k_len { length k.now ≡ W.width.rounds }
-    requires w_len { length w.now ≡ W.width.rounds }
     ensures { Leads W.width i (words W.value s) (map W.value w.now) (i + 4) (words W.value result) (map W.value w.now) }
 {
     let x = late_round(s, w, k, i);
@@ -225,14 +239,16 @@ fn late_four<W: Word>(s: State<W>, w: &[W], k: &[W], i: usize) -> State<W>
 
 // Round i, where every word is there.
 #[inline(always)]
-fn late_round<W: Word>(s: State<W>, w: &[W], k: &[W], i: usize) -> State<W>
+fn late_round<W: Word, const R: usize>(
+    s: State<W>,
+    w: &[W; R],
+    k: &Constants<W, R>,
+    i: usize,
+) -> State<W>
     requires le_i { (W.width.rounds ≤ i + 16) × (i < W.width.rounds) }
-    requires k_value { map W.value k.now ≡ W.width.K }
-    requires k_len { length k.now ≡ W.width.rounds }
-    requires w_len { length w.now ≡ W.width.rounds }
     ensures { Leads W.width i (words W.value s) (map W.value w.now) (i + 1) (words W.value result) (map W.value w.now) }
 {
-    s.round(k[i], w[i])
+    s.round(k.k[i], w[i])
 }
 
 // The schedule's next word, of the words 2, 7, 15 and 16 before it.

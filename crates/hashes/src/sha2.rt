@@ -3,7 +3,7 @@ ghost use Rattle.std.proofs.Common.{rules};
 ghost use Rattle.hashes.specs.Tables.{narrow, wide};
 ghost use Rattle.hashes.specs.Code.{plain};
 
-use crate::compress::State;
+use crate::compress::{Constants, State};
 use crate::stream::Blocks;
 use crate::tables::{K256, K512};
 use octets::numbers::Number;
@@ -14,13 +14,14 @@ impl Blocks<64> for State<u32> {
 
     ghost words = { plain };
 
+    #[tactic(auto, unfolding(crate::specs::Tables::K256))]
     fn blocks(self, bytes: &[u8]) -> State<u32> {
         if bytes.len() < 64 {
             return self;
         }
         let k = K256;
         let mut w = [0; 64];
-        self.worked_in(bytes, &k, &mut w)
+        self.worked_in(bytes, &Constants { k: &k }, &mut w)
     }
 
     fn put_length(last: &mut [u8; 64], n: u64) {
@@ -43,13 +44,14 @@ impl Blocks<128> for State<u64> {
 
     ghost words = { plain };
 
+    #[tactic(auto, unfolding(crate::specs::Tables::K512))]
     fn blocks(self, bytes: &[u8]) -> State<u64> {
         if bytes.len() < 128 {
             return self;
         }
         let k = K512;
         let mut w = [0; 80];
-        self.worked_in(bytes, &k, &mut w)
+        self.worked_in(bytes, &Constants { k: &k }, &mut w)
     }
 
     fn put_length(last: &mut [u8; 128], n: u64) {

@@ -1,6 +1,6 @@
-use Rattle.std.proofs.Common.{◌≡◌, ℕ, length, sym, refl, ◌∙◌, ap, subst, arith, rules}
+use Rattle.std.proofs.Common.{◌≡◌, sym, refl, ◌∙◌, subst, arith, rules}
 use Rattle.hashes.specs.declared.Hasher.{Hasher}
-use Rattle.hashes.specs.declared.Hasher.TheVariants.{Sha256, Sha384, Sha512, Unknown}
+use Rattle.hashes.specs.declared.Hasher.TheVariants.{Sha256, Sha384, Sha512}
 use Rattle.hashes.specs.Tables.{initial256, initial384, initial512, SHA2-256, SHA2-384, SHA2-512}
 use Rattle.hashes.specs.Digests.{digest_length}
 use Rattle.hashes.specs.Progress.{Fed}

@@ -1,4 +1,4 @@
-use Rattle.std.proofs.Common.{ℕ, ◌∙◌, ap₂, arith, rules}
+use Rattle.std.proofs.Common.{ℕ, ◌∙◌, ap₂, rules}
 use Rattle.hashes.specs.Compression.{round}
 use Rattle.hashes.specs.Code.{words}
 use Rattle.hashes.proofs.Rounds.{round-alone, value-at}
@@ -9,7 +9,7 @@ returns g c =
     let P = g.W.Word.width in
     let a = c.args in
     let value = g.W.Number.value in
-    let k = value-at value a.k.now a.i c.index-k-i.result c.index-k-i.is (omega (arith, c.requires.k_len)) in
-    let w = value-at value a.w.now a.i c.index-w-i.result c.index-w-i.is (omega (arith, c.requires.w_len)) in
-    λ H M r. round-alone P H M _ c.requires.k_value (search rules) (search rules) r
+    let k = value-at value a.k.now.k.now a.i c.index-k-i.result (search rules) in
+    let w = value-at value a.w.now a.i c.index-w-i.result (search rules) in
+    λ H M r. round-alone P H M _ a.k.now.table (search rules) (search rules) r
     (c.round.ensures ∙ ap₂ (λ (x y : ℕ). round P x y (words value a.s)) k w)

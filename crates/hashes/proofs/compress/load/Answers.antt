@@ -1,4 +1,4 @@
-use Rattle.std.proofs.Common.{ℕ, ◌+◌, length, map, length-set, ◌∙◌, subst, arith, rules}
+use Rattle.std.proofs.Common.{◌≡◌, ◌+◌, length, length-set, ◌∙◌, subst, arith, rules}
 use Rattle.std.proofs.lemmas.List.{length-map}
 use Rattle.hashes.proofs.Rounds.{values-set}
 use Rattle.hashes.proofs.Blocks.{Loading, load-none, load-more, load-all}
@@ -8,9 +8,10 @@ pub loop-i-init : goal.loop-i-init
 loop-i-init g c =
     let value = g.W.Number.value in
     let a = c.args in
+    let room : length a.w.now ≡ g.W.Word.width.rounds = search rules in
     record {
-      room = c.requires.w_len;
-      loading = load-none g.W.Word.width a.bytes.now a.at (length-map a.w.now value ∙ c.requires.w_len);
+      room = room;
+      loading = load-none g.W.Word.width a.bytes.now a.at (length-map a.w.now value ∙ room);
     }
 
 pub loop-i-preserved : goal.loop-i-preserved

@@ -1,7 +1,7 @@
-use Rattle.std.proofs.Common.{◌∙◌, arith, rules}
+use Rattle.std.proofs.Common.{◌∙◌, rules}
 use Rattle.hashes.specs.Widths.{in_order}
 use Rattle.hashes.specs.Code.{words}
-use Rattle.hashes.proofs.Storing.{store-none, store-more, store-all}
+use Rattle.hashes.proofs.Storing.{store-none, store-more}
 use Rattle.hashes.proofs.compress.State.put_words.Goals as goal
 
 pub loop-i-init : goal.loop-i-init

@@ -1,4 +1,4 @@
-use Rattle.std.proofs.Common.{◌≡◌, ◌/◌, length}
+use Rattle.std.proofs.Common.{◌/◌, length}
 use Rattle.hashes.specs.Padding.{block_bytes}
 use Rattle.hashes.specs.Code.{words}
 use Rattle.hashes.proofs.Blocks.{Working}
@@ -8,7 +8,4 @@ abbrev pub invariant-loop-i : goal.invariant-loop-i
 invariant-loop-i g l =
     let P = g.W.Word.width in
     let value = g.W.Number.value in
-    record {
-      room : length l.w ≡ P.rounds;
-      working : Working P (words value l.fn.self) l.bytes (length l.bytes / block_bytes P) (words value l.v) l.i;
-    }
+    Working P (words value l.fn.self) l.bytes (length l.bytes / block_bytes P) (words value l.v) l.i

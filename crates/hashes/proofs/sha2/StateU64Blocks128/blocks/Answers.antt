@@ -1,12 +1,8 @@
-use Rattle.std.proofs.Common.{refl, arith}
-use Rattle.hashes.specs.Tables.{wide, K512}
+use Rattle.std.proofs.Common.{arith}
+use Rattle.hashes.specs.Tables.{wide}
 use Rattle.hashes.specs.Code.{plain}
 use Rattle.hashes.proofs.Blocks.{work-nothing}
 use Rattle.hashes.proofs.sha2.StateU64Blocks128.blocks.Goals as goal
 
 pub returns-then-bytes-lt128 : goal.returns-then-bytes-lt128
 returns-then-bytes-lt128 c = work-nothing wide (plain c.args.self) c.args.bytes.now (omega arith)
-
-pub worked_in-requires-clause-k_value : goal.worked_in-requires-clause-k_value
-unfolding K512
-worked_in-requires-clause-k_value c = refl

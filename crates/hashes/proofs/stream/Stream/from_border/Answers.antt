@@ -11,5 +11,5 @@ returns g c =
     let b : ℕ = g.row.BLOCK in
     let at : length p - length p % b ≡ length p / b * b = omega (arith, div-add-mod' (length p) b) in
     λ H x e h. fed-from-border P m.some H h p (ap (λ (k : ℕ). length x % k) (sym m.size) ∙ e)
-    (c.blocks-words.ensures ∙ ap (λ (k : ℕ). after_blocks P (g.S.Blocks.words c.args.self.words) p (length p / k)) m.size) (at ∙ ap (λ (k : ℕ). length p / k * k) m.size)
+    (c.blocks-self.ensures ∙ ap (λ (k : ℕ). after_blocks P (g.S.Blocks.words c.args.self.now.words) p (length p / k)) m.size) (at ∙ ap (λ (k : ℕ). length p / k * k) m.size)
     c.copy.ensures refl

@@ -1,5 +1,5 @@
 use Rattle.std.proofs.Common.{◌≡◌, ℕ, ◌+◌, ◌-◌, ◌/◌, ◌%◌, ◌<◌, length, ◌∙◌, ap, arith, rules}
-use Rattle.hashes.specs.Padding.{block_bytes, field_bytes}
+use Rattle.hashes.specs.Padding.{field_bytes}
 use Rattle.hashes.proofs.Blocks.{work-one}
 use Rattle.hashes.proofs.Feeding.{padded-in-one, padded-in-two, count-rest}
 use Rattle.hashes.proofs.stream.Stream.padded.Goals as goal
@@ -9,7 +9,7 @@ returns-then-rest-field g c =
     let P = g.S.Blocks.width in
     let m = g.met.S.Blocks in
     let b : ℕ = g.row.BLOCK in
-    let r : ℕ = c.args.self.length % b in
+    let r : ℕ = c.args.self.now.length % b in
     let at : ℕ = b - field_bytes P in
     let field : b - b / 8 ≡ at = omega (arith, m.size) in
     λ H x l h. padded-in-one P m.some H h l r at (b - b / 8 - (r + 1)) (count-rest b (length x) m.whole h.count ∙ ap (λ (k : ℕ). length x % k) m.size)
@@ -21,7 +21,7 @@ returns g c =
     let P = g.S.Blocks.width in
     let m = g.met.S.Blocks in
     let b : ℕ = g.row.BLOCK in
-    let r : ℕ = c.args.self.length % b in
+    let r : ℕ = c.args.self.now.length % b in
     let at : ℕ = b - field_bytes P in
     let field : b - b / 8 ≡ at = omega (arith, m.size) in
     let some : 0 < b = omega (arith, m.size, m.some) in

@@ -1,6 +1,6 @@
 use Rattle.std.proofs.Common.{ℕ, ◌%◌, length, refl, ◌∙◌, ap, arith}
 use Rattle.hashes.proofs.Feeding.{fed-open}
-use Rattle.hashes.proofs.stream.Stream.kept.Goals as goal
+use Rattle.hashes.proofs.stream.Stream.keep.Goals as goal
 
 pub returns : goal.returns
 returns g c =
