@@ -1,7 +1,7 @@
 // The compression function: the schedule and the rounds of a block, at either width of the words.
 ghost use Rattle.std.specs.Prelude.{◌≡◌, ℕ, ◌+◌, ◌-◌, ◌*◌, ◌/◌, ◌%◌, ◌^◌, ◌<◌, ◌≤◌, List, length, map, slice_index};
 ghost use Rattle.hashes.specs.Widths.{Eight, in_order};
-ghost use Rattle.hashes.specs.Padding.{words_at, block_bytes};
+ghost use Rattle.hashes.specs.Padding.{word_bytes, block_bytes, words_at};
 ghost use Rattle.hashes.specs.Compression.{mixed, T₁, T₂, round, summed, compressed, after_blocks};
 ghost use Rattle.hashes.specs.Code.{words, first_words};
 ghost use Rattle.hashes.specs.Progress.{Rounds, Leads};
@@ -22,61 +22,18 @@ pub struct State<W> {
     pub h: W,
 }
 
-// The constants of the rounds.
-#[derive(Drop)]
-pub struct Constants<'a, W: Word, const R: usize> {
-    pub k: &'a [W; R],
-    ghost table: { map W.value k.now ≡ W.width.K },
-    ghost length_known: { length k.now ≡ R },
-    ghost rounds: { R ≡ W.width.rounds },
-}
-
 impl<W: Word> State<W> {
-    // The hash value with every whole block of `bytes` worked in, by the constants `k` and with `w` to write the schedule in.
-    #[inline(always)]
-    pub fn worked_in<const R: usize>(
-        self,
-        bytes: &[u8],
-        k: &Constants<W, R>,
-        w: &mut [W; R],
-    ) -> State<W>
-        ensures { words W.value result ≡ after_blocks W.width (words W.value self) bytes.now (length bytes.now / block_bytes W.width) }
-    {
-        let size = 16 * W::BYTES;
-        let mut v = self;
-        for i in 0..bytes.len() / size {
-            v = v.block(bytes, i * size, k, w);
-        }
-        v
-    }
-
-    // The hash value with the block at offset `at` worked in.
-    #[inline(always)]
-    fn block<const R: usize>(
-        self,
-        bytes: &[u8],
-        at: usize,
-        k: &Constants<W, R>,
-        w: &mut [W; R],
-    ) -> State<W>
-        requires at_in_bounds { at + block_bytes W.width ≤ length bytes.now }
-        ensures { words W.value result ≡ compressed W.width (words W.value self) (words_at W.width bytes.now at 16) }
-    {
-        load(w, bytes, at);
-        let x = early_rounds(self, w, k);
-        let y = late_rounds(x, w, k);
-        y.plus(self)
-    }
-
-    // The first `n` words as bytes, and zeros.
-    pub fn put_words(self, out: &mut [u8; 64], n: usize)
+    // The first `n` words as bytes, and zeros; how many bytes the words are.
+    pub fn put_words(self, out: &mut [u8; 64], n: usize) -> usize
         requires { n ≤ 8 }
-        ensures { out.new ≡ first_words W.width (words W.value self) n }
+        ensures out_after { out.new ≡ first_words W.width (words W.value self) n }
+        ensures value { result ≡ n * word_bytes W.width }
     {
         octets::parts::fill(out, 0, 64, 0);
         for i in 0..n {
             self.word(i).put_big(out, i * W::BYTES);
         }
+        n * W::BYTES
     }
 
     // An array of words would do, but its size is not known while their type is not.
@@ -149,6 +106,108 @@ impl<W: Word> State<W> {
     }
 }
 
+// The constants of the rounds, whose number is R.
+#[derive(Drop)]
+pub struct Constants<'a, W: Word, const R: usize> {
+    pub k: &'a [W; R],
+    ghost table: { map W.value k.now ≡ W.width.K },
+    ghost length_known: { length k.now ≡ R },
+    ghost rounds: { R ≡ W.width.rounds },
+}
+
+impl<W: Word, const R: usize> Constants<'_, W, R> {
+    // The hash value with every whole block of `bytes` worked in. The schedule is written in `w`.
+    #[inline(always)]
+    pub fn blocks(&self, s: State<W>, bytes: &[u8], w: &mut [W; R]) -> State<W>
+        ensures { words W.value result ≡ after_blocks W.width (words W.value s) bytes.now (length bytes.now / block_bytes W.width) }
+    {
+        let size = 16 * W::BYTES;
+        let mut v = s;
+        for i in 0..bytes.len() / size {
+            v = self.block(v, bytes, i * size, w);
+        }
+        v
+    }
+
+    // The hash value with the block at offset `at` worked in.
+    #[inline(always)]
+    fn block(&self, s: State<W>, bytes: &[u8], at: usize, w: &mut [W; R]) -> State<W>
+        requires at_in_bounds { at + block_bytes W.width ≤ length bytes.now }
+        ensures { words W.value result ≡ compressed W.width (words W.value s) (words_at W.width bytes.now at 16) }
+    {
+        load(w, bytes, at);
+        let x = self.early_rounds(s, w);
+        let y = self.late_rounds(x, w);
+        y.plus(s)
+    }
+
+    // The rounds that a later word comes with.
+    #[inline(always)]
+    fn early_rounds(&self, s: State<W>, w: &mut [W; R]) -> State<W>
+        ensures { Leads W.width 0 (words W.value s) (map W.value w.old) (W.width.rounds - 16) (words W.value result) (map W.value w.new) }
+    {
+        let mut v = s;
+        for i in (0..R - 16).step_by(4) {
+            v = self.early_four(v, w, i);
+        }
+        v
+    }
+
+    #[inline(always)]
+    fn late_rounds(&self, s: State<W>, w: &[W; R]) -> State<W>
+        ensures { Leads W.width (W.width.rounds - 16) (words W.value s) (map W.value w.now) W.width.rounds (words W.value result) (map W.value w.now) }
+    {
+        let mut v = s;
+        for i in (R - 16..R).step_by(4) {
+            v = self.late_four(v, w, i);
+        }
+        v
+    }
+
+    // Four rounds at once: the compiler then keeps the eight words where they are.
+    #[inline(always)]
+    fn early_four(&self, s: State<W>, w: &mut [W; R], i: usize) -> State<W>
+        requires i_bound { i + 19 < W.width.rounds }
+        ensures { Leads W.width i (words W.value s) (map W.value w.old) (i + 4) (words W.value result) (map W.value w.new) }
+    {
+        let x = self.early_round(s, w, i);
+        let y = self.early_round(x, w, i + 1);
+        let z = self.early_round(y, w, i + 2);
+        self.early_round(z, w, i + 3)
+    }
+
+    // Round i, and the word that round i + 16 will want.
+    #[inline(always)]
+    fn early_round(&self, s: State<W>, w: &mut [W; R], i: usize) -> State<W>
+        requires i_bound { i + 16 < W.width.rounds }
+        ensures { Leads W.width i (words W.value s) (map W.value w.old) (i + 1) (words W.value result) (map W.value w.new) }
+    {
+        let r = s.round(self.k[i], w[i]);
+        w[i + 16] = next_word(w[i + 14], w[i + 9], w[i + 1], w[i]);
+        r
+    }
+
+    #[inline(always)]
+    fn late_four(&self, s: State<W>, w: &[W; R], i: usize) -> State<W>
+        requires le_i { (W.width.rounds ≤ i + 16) × (i + 3 < W.width.rounds) }
+        ensures { Leads W.width i (words W.value s) (map W.value w.now) (i + 4) (words W.value result) (map W.value w.now) }
+    {
+        let x = self.late_round(s, w, i);
+        let y = self.late_round(x, w, i + 1);
+        let z = self.late_round(y, w, i + 2);
+        self.late_round(z, w, i + 3)
+    }
+
+    // Round i, where every word is there.
+    #[inline(always)]
+    fn late_round(&self, s: State<W>, w: &[W; R], i: usize) -> State<W>
+        requires le_i { (W.width.rounds ≤ i + 16) × (i < W.width.rounds) }
+        ensures { Leads W.width i (words W.value s) (map W.value w.now) (i + 1) (words W.value result) (map W.value w.now) }
+    {
+        s.round(self.k[i], w[i])
+    }
+}
+
 // The block's 16 words.
 #[inline(always)]
 fn load<W: Word, const R: usize>(w: &mut [W; R], bytes: &[u8], at: usize)
@@ -159,96 +218,6 @@ fn load<W: Word, const R: usize>(w: &mut [W; R], bytes: &[u8], at: usize)
     for i in 0..16 {
         w[i] = W::big(bytes, at + i * W::BYTES);
     }
-}
-
-// The rounds that a later word comes with.
-#[inline(always)]
-fn early_rounds<W: Word, const R: usize>(
-    s: State<W>,
-    w: &mut [W; R],
-    k: &Constants<W, R>,
-) -> State<W>
-    ensures { Leads W.width 0 (words W.value s) (map W.value w.old) (W.width.rounds - 16) (words W.value result) (map W.value w.new) }
-{
-    let mut v = s;
-    for i in (0..w.len() - 16).step_by(4) {
-        v = early_four(v, w, k, i);
-    }
-    v
-}
-
-#[inline(always)]
-fn late_rounds<W: Word, const R: usize>(s: State<W>, w: &[W; R], k: &Constants<W, R>) -> State<W>
-    ensures { Leads W.width (W.width.rounds - 16) (words W.value s) (map W.value w.now) W.width.rounds (words W.value result) (map W.value w.now) }
-{
-    let mut v = s;
-    for i in (w.len() - 16..w.len()).step_by(4) {
-        v = late_four(v, w, k, i);
-    }
-    v
-}
-
-// Four rounds at once: the compiler then keeps the eight words where they are.
-#[inline(always)]
-fn early_four<W: Word, const R: usize>(
-    s: State<W>,
-    w: &mut [W; R],
-    k: &Constants<W, R>,
-    i: usize,
-) -> State<W>
-    requires i_bound { i + 19 < W.width.rounds }
-    ensures { Leads W.width i (words W.value s) (map W.value w.old) (i + 4) (words W.value result) (map W.value w.new) }
-{
-    let x = early_round(s, w, k, i);
-    let y = early_round(x, w, k, i + 1);
-    let z = early_round(y, w, k, i + 2);
-    early_round(z, w, k, i + 3)
-}
-
-// Round i, and the word that round i + 16 will want.
-#[inline(always)]
-fn early_round<W: Word, const R: usize>(
-    s: State<W>,
-    w: &mut [W; R],
-    k: &Constants<W, R>,
-    i: usize,
-) -> State<W>
-    requires i_bound { i + 16 < W.width.rounds }
-    ensures { Leads W.width i (words W.value s) (map W.value w.old) (i + 1) (words W.value result) (map W.value w.new) }
-{
-    let r = s.round(k.k[i], w[i]);
-    w[i + 16] = next_word(w[i + 14], w[i + 9], w[i + 1], w[i]);
-    r
-}
-
-#[inline(always)]
-fn late_four<W: Word, const R: usize>(
-    s: State<W>,
-    w: &[W; R],
-    k: &Constants<W, R>,
-    i: usize,
-) -> State<W>
-    requires le_i { (W.width.rounds ≤ i + 16) × (i + 3 < W.width.rounds) }
-    ensures { Leads W.width i (words W.value s) (map W.value w.now) (i + 4) (words W.value result) (map W.value w.now) }
-{
-    let x = late_round(s, w, k, i);
-    let y = late_round(x, w, k, i + 1);
-    let z = late_round(y, w, k, i + 2);
-    late_round(z, w, k, i + 3)
-}
-
-// Round i, where every word is there.
-#[inline(always)]
-fn late_round<W: Word, const R: usize>(
-    s: State<W>,
-    w: &[W; R],
-    k: &Constants<W, R>,
-    i: usize,
-) -> State<W>
-    requires le_i { (W.width.rounds ≤ i + 16) × (i < W.width.rounds) }
-    ensures { Leads W.width i (words W.value s) (map W.value w.now) (i + 1) (words W.value result) (map W.value w.now) }
-{
-    s.round(k.k[i], w[i])
 }
 
 // The schedule's next word, of the words 2, 7, 15 and 16 before it.

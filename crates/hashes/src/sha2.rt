@@ -21,15 +21,15 @@ impl Blocks<64> for State<u32> {
         }
         let k = K256;
         let mut w = [0; 64];
-        self.worked_in(bytes, &Constants { k: &k }, &mut w)
+        Constants { k: &k }.blocks(self, bytes, &mut w)
     }
 
     fn put_length(last: &mut [u8; 64], n: u64) {
         (n << 3).put_big(last, 56);
     }
 
-    fn put(self, out: &mut [u8; 64], n: usize) {
-        self.put_words(out, n);
+    fn put(self, out: &mut [u8; 64], n: usize) -> usize {
+        self.put_words(out, n)
     }
 
     ghost size = { Prim.search rules };
@@ -51,7 +51,7 @@ impl Blocks<128> for State<u64> {
         }
         let k = K512;
         let mut w = [0; 80];
-        self.worked_in(bytes, &Constants { k: &k }, &mut w)
+        Constants { k: &k }.blocks(self, bytes, &mut w)
     }
 
     fn put_length(last: &mut [u8; 128], n: u64) {
@@ -59,8 +59,8 @@ impl Blocks<128> for State<u64> {
         (n << 3).put_big(last, 120);
     }
 
-    fn put(self, out: &mut [u8; 64], n: usize) {
-        self.put_words(out, n);
+    fn put(self, out: &mut [u8; 64], n: usize) -> usize {
+        self.put_words(out, n)
     }
 
     ghost size = { Prim.search rules };

@@ -9,7 +9,7 @@ unfolding initial256
 returns-in-2 c =
     let m = c.args.message.now in
     let h = answer-by c.args.id (has-2 c.in-2.is) m
-    (sha2-of SHA2-256 m 8 (omega arith) (omega arith) refl (c.digest.ensures initial256 [] (search rules) c.begin.ensures)) refl in
+    (sha2-of SHA2-256 m 8 (omega arith) (omega arith) refl (c.digest.ensures.out_after initial256 [] (search rules) c.begin.ensures)) c.digest.ensures.value in
     record { out_after = h.0; value = h.1 }
 
 pub returns-in-3 : goal.returns-in-3
@@ -17,7 +17,7 @@ unfolding initial384
 returns-in-3 c =
     let m = c.args.message.now in
     let h = answer-by c.args.id (has-3 c.in-3.is) m
-    (sha2-of SHA2-384 m 6 (omega arith) (omega arith) refl (c.digest-in-3.ensures initial384 [] (search rules) c.begin-in-3.ensures)) refl in
+    (sha2-of SHA2-384 m 6 (omega arith) (omega arith) refl (c.digest-in-3.ensures.out_after initial384 [] (search rules) c.begin-in-3.ensures)) c.digest-in-3.ensures.value in
     record { out_after = h.0; value = h.1 }
 
 pub returns-in-4 : goal.returns-in-4
@@ -25,7 +25,7 @@ unfolding initial512
 returns-in-4 c =
     let m = c.args.message.now in
     let h = answer-by c.args.id (has-4 c.in-4.is) m
-    (sha2-of SHA2-512 m 8 (omega arith) (omega arith) refl (c.digest-in-4.ensures initial512 [] (search rules) c.begin-in-4.ensures)) refl in
+    (sha2-of SHA2-512 m 8 (omega arith) (omega arith) refl (c.digest-in-4.ensures.out_after initial512 [] (search rules) c.begin-in-4.ensures)) c.digest-in-4.ensures.value in
     record { out_after = h.0; value = h.1 }
 
 pub returns-in_default : goal.returns-in_default

@@ -13,19 +13,19 @@ pub returns-in-Sha256 : goal.returns-in-Sha256
 returns-in-Sha256 c =
     λ i x l f.
     let h : Fed (Sha256 c.in-Sha256.stream) i x = subst (λ (k : Hasher). Fed k i x) c.in-Sha256.is f in
-    answer-by i (has-2 h.0) x (sha2-of SHA2-256 x 8 (omega arith) (omega arith) refl (c.finish.ensures initial256 x l h.1)) refl
+    answer-by i (has-2 h.0) x (sha2-of SHA2-256 x 8 (omega arith) (omega arith) refl (c.finish.ensures.out_after initial256 x l h.1)) c.finish.ensures.value
 
 pub returns-in-Sha384 : goal.returns-in-Sha384
 returns-in-Sha384 c =
     λ i x l f.
     let h : Fed (Sha384 c.in-Sha384.stream) i x = subst (λ (k : Hasher). Fed k i x) c.in-Sha384.is f in
-    answer-by i (has-3 h.0) x (sha2-of SHA2-384 x 6 (omega arith) (omega arith) refl (c.finish-in-Sha384.ensures initial384 x l h.1)) refl
+    answer-by i (has-3 h.0) x (sha2-of SHA2-384 x 6 (omega arith) (omega arith) refl (c.finish-in-Sha384.ensures.out_after initial384 x l h.1)) c.finish-in-Sha384.ensures.value
 
 pub returns-in-Sha512 : goal.returns-in-Sha512
 returns-in-Sha512 c =
     λ i x l f.
     let h : Fed (Sha512 c.in-Sha512.stream) i x = subst (λ (k : Hasher). Fed k i x) c.in-Sha512.is f in
-    answer-by i (has-4 h.0) x (sha2-of SHA2-512 x 8 (omega arith) (omega arith) refl (c.finish-in-Sha512.ensures initial512 x l h.1)) refl
+    answer-by i (has-4 h.0) x (sha2-of SHA2-512 x 8 (omega arith) (omega arith) refl (c.finish-in-Sha512.ensures.out_after initial512 x l h.1)) c.finish-in-Sha512.ensures.value
 
 pub returns-in-Unknown : goal.returns-in-Unknown
 returns-in-Unknown c =
