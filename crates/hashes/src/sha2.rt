@@ -14,7 +14,6 @@ impl Blocks<64> for State<u32> {
 
     ghost words = { plain };
 
-    #[tactic(auto, unfolding(crate::specs::Tables::K256))]
     fn blocks(self, bytes: &[u8]) -> State<u32> {
         if bytes.len() < 64 {
             return self;
@@ -44,7 +43,6 @@ impl Blocks<128> for State<u64> {
 
     ghost words = { plain };
 
-    #[tactic(auto, unfolding(crate::specs::Tables::K512))]
     fn blocks(self, bytes: &[u8]) -> State<u64> {
         if bytes.len() < 128 {
             return self;
