@@ -1,5 +1,5 @@
 -- Laws of the blocks of a message, over the width: loading one, working in one after the other, and the last one's length field.
-use Rattle.std.proofs.Common.{◌≡◌, ℕ, zero, suc, ◌+◌, ◌*◌, ◌/◌, ◌%◌, ◌^◌, ◌<◌, ◌≤◌, List, [], ◌∷◌, ◌++◌, length, take, drop, set, sym, refl, ap, ◌∙◌, subst, ap₂, add-zero, add_assoc, add-suc, suc-mul, add-mul, add-one, arith, le_trans, mul-le-mul_right, div-mul-le_self, length-append, length-drop, length-set, drop-drop, take-suc-set}
+use Rattle.std.proofs.Common.{◌≡◌, ℕ, zero, suc, ◌+◌, ◌*◌, ◌/◌, ◌%◌, ◌^◌, ◌<◌, ◌≤◌, List, [], ◌∷◌, ◌++◌, length, take, drop, set, sym, refl, ap, ◌∙◌, subst, ap₂, add-zero, add_assoc, add-suc, suc-mul, add-mul, add-one, arith, length-append, length-drop, length-set, drop-drop, take-suc-set}
 use native.Mathlib.Nat.{div_self}
 use lib.Seq.{take-append-le, drop-append-le}
 use Rattle.octets.specs.Numbers.{big, big_bytes}
@@ -73,11 +73,6 @@ words_at-drop P s k at (suc n) =
 
 -- ---- blocks one after the other
 
--- a block that is counted lies in the message
-pub block-within : (size n i : ℕ) → i < n / size → i * size + size ≤ n
-block-within size n i l =
-    le_trans (omega (arith, suc-mul i size, mul-le-mul_right size l)) (div-mul-le_self n size)
-
 module _ (P : Width) where
   -- a loop that works in n blocks, at i
   pub record Working (H : Eight) (s : List ℕ) (n : ℕ) (v : Eight) (i : ℕ) : Type 0 where
@@ -100,11 +95,6 @@ module _ (P : Width) where
             ∙ ap (λ (v : Eight). compressed P v (block P s i)) h.value
             ∙ ap (after_blocks P H s) (sym (add-one i));
       }
-
-  pub work-all : (H : Eight) (s : List ℕ) (n i : ℕ) {v : Eight} → n ≤ i → Working H s n v i → v ≡ after_blocks P H s n
-  work-all H s n i l h =
-      let e : i ≡ n = omega arith in
-      h.value ∙ ap (after_blocks P H s) e
 
   pub work-nothing : (H : Eight) (s : List ℕ) {n : ℕ} → n ≡ 0 → H ≡ after_blocks P H s n
   unfolding after_blocks

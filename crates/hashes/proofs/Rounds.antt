@@ -1,12 +1,12 @@
 -- Laws of the schedule and the rounds of a block, over the width.
-use Rattle.std.proofs.Common.{◌≡◌, ℕ, zero, suc, ◌+◌, ◌-◌, ◌%◌, ◌^◌, ◌<◌, ◌≤◌, ◌⊎◌, List, [], ◌∷◌, length, get_or, map, take, set, sym, refl, ap, ◌∙◌, subst, ap₂, ⊎_elim, add-zero, add-suc, add-sub_of_le, eq-or-lt_of_le, add-one, arith, length-append, length-set, get_or-set_other, get_or-take, get_or-set_same}
+use Rattle.std.proofs.Common.{◌≡◌, ℕ, zero, suc, ◌+◌, ◌-◌, ◌%◌, ◌^◌, ◌<◌, ◌≤◌, ◌⊎◌, List, [], ◌∷◌, length, get_or, map, take, set, sym, refl, ap, ◌∙◌, ap₂, ⊎_elim, add-zero, add-suc, add-sub_of_le, eq-or-lt_of_le, add-one, arith, length-append, length-set, get_or-set_other, get_or-take, get_or-set_same}
 use native.Mathlib.Nat.{add-mod-mod, mod-add-mod}
 use lib.ListN.{get_or-append}
 use lib.Seq.{get_or_at}
 use Rattle.std.proofs.lemmas.List.{get_or-map, map-set}
-use Rattle.hashes.specs.Words.{add, ch, big_sigma, small_sigma}
+use Rattle.hashes.specs.Words.{add, ch, big_sigma}
 use Rattle.hashes.specs.Widths.{Width, Eight}
-use Rattle.hashes.specs.Compression.{mixed, next_word, with_next, scheduled, schedule, T₁, T₂, round, after_rounds, summed, compressed}
+use Rattle.hashes.specs.Compression.{mixed, next_word, with_next, scheduled, schedule, T₁, round, after_rounds, summed, compressed}
 use Rattle.hashes.specs.Progress.{Rounds, Leads}
 
 -- ---- the sums
@@ -22,35 +22,7 @@ T₁-of P K W v ex ey ep ez eq er =
     regrouped : (w h s c : ℕ) → add w (add w (add w h (add w K W)) c) s ≡ add w (add w (add w (add w h s) c) K) W
     regrouped w h s c = simp (mod-add-mod, add-mod-mod) (ap (λ (n : ℕ). n % 2 ^ w) (omega arith))
 
--- a round, of its two sums
-pub round-of : (P : Width) (K W : ℕ) (v : Eight) {x y p q : ℕ} → x ≡ T₁ P K W v → y ≡ T₂ P v → p ≡ add P.w x y → q ≡ add P.w v.d x
-    → ◌≡◌ {A = Eight} (record { a = p; b = v.a; c = v.b; d = v.c; e = q; f = v.e; g = v.f; h = v.g }) (round P K W v)
-unfolding round
-round-of P K W v {x} {y} {p} {q} ex ey ep eq =
-    λ i. record { a = first i; b = v.a; c = v.b; d = v.c; e = second i; f = v.e; g = v.f; h = v.g }
-  where
-    first : p ≡ add P.w (T₁ P K W v) (T₂ P v)
-    first = ep ∙ ap₂ (add P.w) ex ey
-
-    second : q ≡ add P.w v.d (T₁ P K W v)
-    second = eq ∙ ap (add P.w v.d) ex
-
--- the hash value with the working variables added, of its eight sums
-pub summed-of : (P : Width) (v H : Eight) {a b c d e f g h : ℕ} → a ≡ add P.w v.a H.a → b ≡ add P.w v.b H.b
-    → c ≡ add P.w v.c H.c → d ≡ add P.w v.d H.d → e ≡ add P.w v.e H.e → f ≡ add P.w v.f H.f
-    → g ≡ add P.w v.g H.g → h ≡ add P.w v.h H.h
-    → ◌≡◌ {A = Eight} (record { a = a; b = b; c = c; d = d; e = e; f = f; g = g; h = h }) (summed P v H)
-unfolding summed
-summed-of P v H a b c d e f g h = λ i. record { a = a i; b = b i; c = c i; d = d i; e = e i; f = f i; g = g i; h = h i }
-
--- the schedule's next word, of its sums
-pub mixed-of : (P : Width) (x y z u : ℕ) {s p t q r : ℕ} → s ≡ small_sigma P.w P.σ₁ x → p ≡ add P.w s y
-    → t ≡ small_sigma P.w P.σ₀ z
-    → q ≡ add P.w p t → r ≡ add P.w q u → r ≡ mixed P x y z u
-mixed-of P x y z u es ep et eq er =
-    er ∙ ap (λ (n : ℕ). add P.w n u) (eq ∙ ap₂ (add P.w) (ep ∙ ap (λ (n : ℕ). add P.w n y) es) et)
-
--- the same of words that stand in the schedule
+-- the schedule's next word, of words that stand in it
 pub next-of : (P : Width) (W : List ℕ) (t : ℕ) {x y z u r : ℕ} → r ≡ mixed P x y z u → x ≡ get_or W (t + 14) 0 → y ≡ get_or W (t + 9) 0
     → z ≡ get_or W (t + 1) 0 → u ≡ get_or W t 0 → r ≡ next_word P W t
 next-of P W t er ex ey ez eu = er ∙ rw (ex, ey, ez, eu)
@@ -173,37 +145,9 @@ module _ (P : Width) (H : Eight) (M : List ℕ) where
 
 -- ---- rounds one after the other
 
-leads-on : (P : Width) {t u n : ℕ} {v x y : Eight} {W X Y : List ℕ} → Leads P t v W u x X → Leads P u x X n y Y → Leads P t v W n y Y
-leads-on P f g H M h = g H M (f H M h)
-
-leads-to : (P : Width) {t u n : ℕ} {v y : Eight} {W Y : List ℕ} → u ≡ n → Leads P t v W u y Y → Leads P t v W n y Y
-leads-to P {v = v} {y} {W} {Y} e f H M h = subst (λ (k : ℕ). Rounds P H M k y Y) e (f H M h)
-
-pub four : (P : Width) (t : ℕ) {v p q r y : Eight} {W A B C Y : List ℕ} → Leads P t v W (t + 1) p A → Leads P (t + 1) p A (t + 1 + 1) q B
-    → Leads P (t + 2) q B (t + 2 + 1) r C → Leads P (t + 3) r C (t + 3 + 1) y Y → Leads P t v W (t + 4) y Y
-four P t f g h k =
-    leads-to P (omega arith) (leads-on P (leads-to P (omega arith) (leads-on P (leads-to P (omega arith) (leads-on P f g)) h)) k)
-
 -- a loop that does four rounds a turn, from `from` to `to`, at i
 pub record Fours (P : Width) (from to : ℕ) (v : Eight) (W : List ℕ) (i : ℕ) (y : Eight) (Y : List ℕ) : Type 0 where
   pub since : from ≤ i
   pub until : i ≤ to
   pub whole : i % 4 ≡ 0
   pub leads : Leads P from v W i y Y
-
-module _ (P : Width) (from to : ℕ) where
-  pub fours-begin : {v : Eight} {W : List ℕ} → from ≤ to → from % 4 ≡ 0 → Fours P from to v W from v W
-  fours-begin l e = record { since = omega arith; until = l; whole = e; leads = λ H M h. h }
-
-  pub fours-more : {i : ℕ} {v y z : Eight} {W Y Z : List ℕ} → to % 4 ≡ 0 → i < to → Fours P from to v W i y Y → Leads P i y Y (i + 4) z Z
-      → Fours P from to v W (i + 4) z Z
-  fours-more e l h f =
-      record {
-        since = omega arith;
-        until = omega arith;
-        whole = omega arith;
-        leads = leads-on P h.leads f;
-      }
-
-  pub fours-end : {i : ℕ} {v y : Eight} {W Y : List ℕ} → to ≤ i → Fours P from to v W i y Y → Leads P from v W to y Y
-  fours-end l h = leads-to P (omega arith) h.leads

@@ -122,11 +122,6 @@ module _ (P : Width) (ws : List ℕ) where
       length-sixty-four : length (in_sixty_four (before ++ word)) ≡ 64
       length-sixty-four = length-in_sixty_four (before ++ word) (omega (arith, length_both, fits))
 
-  pub store-all : (n i : ℕ) {out : List ℕ} → n ≤ i → Storing n out i → out ≡ in_sixty_four (joined P ws n)
-  store-all n i l s =
-      let e : i ≡ n = omega arith in
-      s.stored ∙ ap (λ (j : ℕ). in_sixty_four (joined P ws j)) e
-
 -- ---- a whole digest
 
 module _ (X : Hash) (m : List ℕ) where

@@ -71,6 +71,7 @@ impl<W: Word> State<W> {
     }
 
     #[inline(always)]
+    #[tactic(auto, unfolding(crate::specs::Compression::round))]
     fn round(self, k: W, w: W) -> State<W>
         ensures { words W.value result ≡ round W.width (W.value k) (W.value w) (words W.value self) }
     {
@@ -90,6 +91,7 @@ impl<W: Word> State<W> {
 
     // The working variables `self` added to the hash value `to`.
     #[inline(always)]
+    #[tactic(auto, unfolding(crate::specs::Compression::summed))]
     fn plus(self, to: State<W>) -> State<W>
         ensures { words W.value result ≡ summed W.width (words W.value self) (words W.value to) }
     {
