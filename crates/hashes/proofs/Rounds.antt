@@ -1,5 +1,5 @@
 -- Laws of the schedule and the rounds of a block, over the width.
-use Rattle.std.proofs.Common.{◌≡◌, ℕ, zero, suc, ◌+◌, ◌-◌, ◌%◌, ◌^◌, ◌<◌, ◌≤◌, ◌⊎◌, List, [], ◌∷◌, length, get_or, map, take, set, sym, refl, ap, ◌∙◌, ap₂, ⊎_elim, add-zero, add-suc, add-sub_of_le, eq-or-lt_of_le, add-one, arith, length-append, length-set, get_or-set_other, get_or-take, get_or-set_same}
+use Rattle.std.proofs.Common.{◌≡◌, ℕ, zero, suc, ◌+◌, ◌-◌, ◌%◌, ◌^◌, ◌<◌, ◌≤◌, ◌⊎◌, List, [], ◌∷◌, length, get_or, map, take, set, sym, refl, ap, ◌∙◌, subst, ap₂, ⊎_elim, add-zero, add-suc, add-sub_of_le, eq-or-lt_of_le, add-one, arith, length-append, length-set, get_or-set_other, get_or-take, get_or-set_same}
 use native.Mathlib.Nat.{add-mod-mod, mod-add-mod}
 use lib.ListN.{get_or-append}
 use lib.Seq.{get_or_at}
@@ -144,6 +144,17 @@ module _ (P : Width) (H : Eight) (M : List ℕ) where
   all_done h e = e ∙ ap (λ (v : Eight). summed P v H) h.variables
 
 -- ---- rounds one after the other
+
+leads-on : (P : Width) {t u n : ℕ} {v x y : Eight} {W X Y : List ℕ} → Leads P t v W u x X → Leads P u x X n y Y → Leads P t v W n y Y
+leads-on P f g H M h = g H M (f H M h)
+
+leads-to : (P : Width) {t u n : ℕ} {v y : Eight} {W Y : List ℕ} → u ≡ n → Leads P t v W u y Y → Leads P t v W n y Y
+leads-to P {v = v} {y} {W} {Y} e f H M h = subst (λ (k : ℕ). Rounds P H M k y Y) e (f H M h)
+
+pub four : (P : Width) (t : ℕ) {v p q r y : Eight} {W A B C Y : List ℕ} → Leads P t v W (t + 1) p A → Leads P (t + 1) p A (t + 1 + 1) q B
+    → Leads P (t + 2) q B (t + 2 + 1) r C → Leads P (t + 3) r C (t + 3 + 1) y Y → Leads P t v W (t + 4) y Y
+four P t f g h k =
+    leads-to P (omega arith) (leads-on P (leads-to P (omega arith) (leads-on P (leads-to P (omega arith) (leads-on P f g)) h)) k)
 
 -- a loop that does four rounds a turn, from `from` to `to`, at i
 pub record Fours (P : Width) (from to : ℕ) (v : Eight) (W : List ℕ) (i : ℕ) (y : Eight) (Y : List ℕ) : Type 0 where

@@ -8,6 +8,7 @@ use crate::stream::Blocks;
 use crate::tables::{K256, K512};
 use octets::numbers::Number;
 
+// The two read alike but for lengths, which the language does not compute from a type.
 // The constants are copied once for all blocks: read where they stand they would be copied at each use.
 impl Blocks<64> for State<u32> {
     ghost width = { narrow };
