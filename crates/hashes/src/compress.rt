@@ -123,21 +123,20 @@ impl<W: Word, const R: usize> Constants<'_, W, R> {
     pub fn blocks(&self, s: State<W>, bytes: &[u8], w: &mut [W; R]) -> State<W>
         ensures { words W.value result ≡ after_blocks W.width (words W.value s) bytes.now (length bytes.now / block_bytes W.width) }
     {
-        let size = 16 * W::BYTES;
         let mut v = s;
-        for i in 0..bytes.len() / size {
-            v = self.block(v, bytes, i * size, w);
+        for block in bytes.chunks_exact(16 * W::BYTES) {
+            v = self.block(v, block, w);
         }
         v
     }
 
-    // The hash value with the block at offset `at` worked in.
+    // The hash value with a block worked in.
     #[inline(always)]
-    fn block(&self, s: State<W>, bytes: &[u8], at: usize, w: &mut [W; R]) -> State<W>
-        requires at_in_bounds { at + block_bytes W.width ≤ length bytes.now }
-        ensures { words W.value result ≡ compressed W.width (words W.value s) (words_at W.width bytes.now at 16) }
+    fn block(&self, s: State<W>, block: &[u8], w: &mut [W; R]) -> State<W>
+        requires { length block.now ≡ block_bytes W.width }
+        ensures { words W.value result ≡ compressed W.width (words W.value s) (words_at W.width block.now 0 16) }
     {
-        load(w, bytes, at);
+        load(w, block);
         let x = self.early_rounds(s, w);
         let y = self.late_rounds(x, w);
         y.plus(s)
@@ -212,13 +211,13 @@ impl<W: Word, const R: usize> Constants<'_, W, R> {
 
 // The block's 16 words.
 #[inline(always)]
-fn load<W: Word, const R: usize>(w: &mut [W; R], bytes: &[u8], at: usize)
+fn load<W: Word, const R: usize>(w: &mut [W; R], block: &[u8])
     requires rounds { R ≡ W.width.rounds }
-    requires at_in_bounds { at + block_bytes W.width ≤ length bytes.now }
-    ensures { (H : Eight) → Rounds W.width H (words_at W.width bytes.now at 16) 0 H (map W.value w.new) }
+    requires length { length block.now ≡ block_bytes W.width }
+    ensures { (H : Eight) → Rounds W.width H (words_at W.width block.now 0 16) 0 H (map W.value w.new) }
 {
     for i in 0..16 {
-        w[i] = W::big(bytes, at + i * W::BYTES);
+        w[i] = W::big(block, i * W::BYTES);
     }
 }
 

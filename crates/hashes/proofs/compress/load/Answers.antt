@@ -11,7 +11,7 @@ loop-i-init g c =
     let room : length a.w.now ≡ g.W.Word.width.rounds = search rules in
     record {
       room = room;
-      loading = load-none g.W.Word.width a.bytes.now a.at (length-map a.w.now value ∙ room);
+      loading = load-none g.W.Word.width a.block.now (length-map a.w.now value ∙ room);
     }
 
 pub loop-i-preserved : goal.loop-i-preserved
@@ -24,10 +24,10 @@ loop-i-preserved g c =
     record {
       room = length-set l.w l.i c.big.result ∙ l.invariant.room;
       loading =
-          subst (λ s. Loading P a.bytes.now a.at P.rounds s (l.i + 1)) (values-set value l.w l.i c.big.result)
-          (load-more P a.bytes.now a.at (omega arith) m.sixteen l.invariant.loading (c.BYTES.ensures ∙ m.size) m.size
+          subst (λ s. Loading P a.block.now P.rounds s (l.i + 1)) (values-set value l.w l.i c.big.result)
+          (load-more P a.block.now (omega arith) m.sixteen l.invariant.loading (c.BYTES.ensures ∙ m.size) m.size
           c.big.ensures);
     }
 
 pub returns : goal.returns
-returns g c = load-all g.W.Word.width c.args.bytes.now c.args.at (omega arith) c.loop-i.invariant.loading
+returns g c = load-all g.W.Word.width c.args.block.now (omega arith) c.loop-i.invariant.loading

@@ -1,11 +1,15 @@
-use Rattle.std.proofs.Common.{◌/◌, length}
-use Rattle.hashes.specs.Padding.{block_bytes}
+use Rattle.std.specs.Prelude.{◌≡◌}
 use Rattle.hashes.specs.Code.{words}
+use Rattle.hashes.specs.Padding.{block_bytes}
 use Rattle.hashes.proofs.Blocks.{Working}
+use Rattle.std.specs.Slice.Iter.{chunks_exact_rest, chunks_exact_size}
 use Rattle.hashes.proofs.compress.Constants.blocks.Given as goal
 
-abbrev pub invariant-loop-i : goal.invariant-loop-i
-invariant-loop-i g l =
+abbrev pub invariant-loop-block : goal.invariant-loop-block
+invariant-loop-block g l =
     let P = g.W.Word.width in
     let value = g.W.Number.value in
-    Working P (words value l.fn.s) l.bytes (length l.bytes / block_bytes P) (words value l.v) l.i
+    record {
+      size : chunks_exact_size l.block-iterator ≡ block_bytes P;
+      working : Working P (words value l.fn.s) l.bytes (words value l.v) (chunks_exact_rest l.block-iterator);
+    }
