@@ -4,9 +4,11 @@ use mathlib.Core.Logic.{◌≢◌}
 use mathlib.Core.Path.{◌≡◌, refl, sym, ap, ◌∙◌}
 use Prim.Native.Nat.{ℕ}
 use lib.ListN.{length}
+use Rattle.std.specs.Prelude.{Option, Some, None, unwrap_or}
 use Rattle.answers.specs.Answers.{refused, record_bytes, record_length, stop_at}
 use Rattle.answers.specs.Rules.{first_broken, size_rules}
 use Rattle.answers.specs.declared.Answer.{Answer}
+use Rattle.answers.specs.declared.Stop.{Stop}
 use Rattle.answers.proofs.OutcomeLaws.{given, answered-unwritten, concluded-refused, concluded-done}
 use Rattle.answers.proofs.RuleLaws.{both_hold}
 use Rattle.board.specs.Cpuid.{table_rules}
@@ -18,6 +20,14 @@ use Rattle.machine.specs.Machine.{State, Store, begun, trace, answer_of, halted,
 use Rattle.machine.specs.Memory.{applied}
 use Rattle.machine.proofs.BareLaws.{bare-short}
 use Rattle.machine.proofs.TakingLaws.{ready-begun}
+
+-- what the code is given to read
+abbrev pub lent : List ℕ → List ℕ → List ℕ → ℕ → Bare
+lent file map table mode = record { file = file; map = map; table = table; mode = mode }
+
+pub stop_or-unwrap_or : (otherwise : Stop) (h : Option Stop) → unwrap_or h otherwise ≡ stop_or otherwise h
+stop_or-unwrap_or otherwise None = refl
+stop_or-unwrap_or otherwise (Some stop) = refl
 
 module _ (b : Bare) where
   -- what is judged before the file is looked at makes a machine ready to take it

@@ -17,6 +17,7 @@ use borrow.Author.Tests.{ltb-true, ltb-false}
 use lib.Dec.{eqb, ltb, lit≤}
 use lib.ListN.{length, replicate, take, drop, length-append, length-drop, length-replicate}
 use lib.Seq.{take_all, take-length, drop-length, take-append-le, drop-append-le}
+use Rattle.std.specs.Prelude.{is_some}
 use Rattle.octets.specs.Numbers.{little}
 use Rattle.octets.specs.Parts.{part}
 use Rattle.answers.specs.Answers.{stop_at}
@@ -557,8 +558,8 @@ Complete on bytes = HasMagic bytes × (first_byte on bytes ≡ on.job.length)
 -- the run has stopped, with 0 where an entry was set, and else with 27
 abbrev pub AtEnd : Setting → List ℕ → Type 0
 AtEnd on bytes =
-    (((ran on bytes).phase ≡ Stopped (stop_at 0 0)) × ((ran on bytes).tally.entered ≡ true))
-    ⊎ (((ran on bytes).phase ≡ Stopped (stop_at 27 on.job.length)) × ((ran on bytes).tally.entered ≡ false))
+    (((ran on bytes).phase ≡ Stopped (stop_at 0 0)) × (is_some (ran on bytes).tally.entry ≡ true))
+    ⊎ (((ran on bytes).phase ≡ Stopped (stop_at 27 on.job.length)) × (is_some (ran on bytes).tally.entry ≡ false))
 
 pub complete-ends : (on : Setting) (bytes : List ℕ) → Complete on bytes → AtEnd on bytes
 complete-ends on bytes (has, at) = go (running-or-stopped (ran on bytes).phase)

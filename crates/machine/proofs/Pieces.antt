@@ -197,7 +197,7 @@ unfolding react stores_from
 effects-storing on =
     effects-data on Storing with_stored stores_from
     (λ n t. let e : t.stored + 1 + n ≡ t.stored + suc n = omega arith in
-    λ i. record { commands = t.commands; stored = e i; entry = t.entry; entered = t.entered })
+    λ i. record { commands = t.commands; stored = e i; entry = t.entry })
     (λ a b xs. refl)
     (λ a left s b. refl)
 

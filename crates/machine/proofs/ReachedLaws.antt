@@ -10,6 +10,7 @@ use native.Mathlib.Omega.{arith}
 use lib.Dec.{eqb, lit≤}
 use lib.ListN.{length, length-append}
 use lib.Seq.{append_snoc}
+use Rattle.std.specs.Prelude.{unwrap_or}
 use Rattle.answers.specs.declared.Stop.{Stop}
 use Rattle.answers.proofs.ChoiceLaws.{cond_cases}
 use Rattle.board.specs.Map.{ordered, total}
@@ -89,7 +90,7 @@ module _ (on : Setting) where
         (begun on.job.length) bytes (begun-stands on) (omega arith))
 
   -- the entry is reachable, so it fits 64 bits
-  pub reached-entry : (s : State) → Reached on s → s.tally.entry ≤ 2 ^ 52
+  pub reached-entry : (s : State) → Reached on s → unwrap_or s.tally.entry 0 ≤ 2 ^ 52
   reached-entry s r = omega (arith, (reached-stands s r).enters, limit-few on.job.mode)
 
   -- ---- bytes used

@@ -8,6 +8,7 @@ use native.Mathlib.Nat.{add-zero, zero-add}
 use native.Mathlib.Omega.{arith}
 use lib.Dec.{eqb, ltb, lit≤}
 use lib.ListN.{length, replicate, take, drop}
+use Rattle.std.specs.Prelude.{is_some}
 use Rattle.octets.specs.Numbers.{little}
 use Rattle.octets.specs.Parts.{part}
 use Rattle.answers.specs.Rules.{Rule, rule, first_broken}
@@ -205,7 +206,7 @@ unfolding command_begins
 begins-twin file_length s k =
     let t = with_gathered k s in
     cond_both Twin (eqb s.next file_length) _ _ _ _
-    (cond_both Twin s.tally.entered (stopped 0 0 s) (stopped 27 file_length s) (stopped 0 0 t) (stopped 27 file_length t)
+    (cond_both Twin (is_some s.tally.entry) (stopped 0 0 s) (stopped 27 file_length s) (stopped 0 0 t) (stopped 27 file_length t)
     (k, refl, tt) (k, refl, tt))
     (cond_both Twin (ltb (file_length - s.next) 16) (stopped 17 s.next s) (awaiting s) (stopped 17 s.next t) (awaiting t)
     (k, refl, tt) ([], refl, tt))

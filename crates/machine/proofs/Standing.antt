@@ -10,6 +10,7 @@ use borrow.Author.Tests.{ltb-true, ltb-false, leb-true, le-leb, eqb-true, eqb-fa
 use lib.Dec.{T, eqb, leb, ltb, lit≤}
 use lib.ListN.{length, replicate, take, drop, length-append, length-replicate, length-drop}
 use lib.Seq.{take-append-le, drop-append-le}
+use Rattle.std.specs.Prelude.{is_some, unwrap_or}
 use Rattle.octets.specs.Numbers.{little}
 use Rattle.answers.specs.Answers.{stop_at}
 use Rattle.answers.specs.Rules.{Rule, first_broken}
@@ -78,14 +79,14 @@ use Rattle.machine.proofs.MemoryLaws.{length-stores_from}
 
 -- where a command would begin
 pub begins_cases : (P : State → Type 0) (file_length : ℕ) (s : State)
-    → (s.next ≡ file_length → s.tally.entered ≡ true → P (stopped 0 0 s))
-    → (s.next ≡ file_length → s.tally.entered ≡ false → P (stopped 27 file_length s))
+    → (s.next ≡ file_length → is_some s.tally.entry ≡ true → P (stopped 0 0 s))
+    → (s.next ≡ file_length → is_some s.tally.entry ≡ false → P (stopped 27 file_length s))
     → (s.next ≢ file_length → P (stopped 17 s.next s)) → (16 ≤ file_length - s.next → P (awaiting s)) → P (command_begins file_length s)
 unfolding command_begins
 begins_cases P file_length s done without short on =
     cond_cases P (eqb s.next file_length) _ _
     (λ e. let end = eqb-true s.next file_length e in
-    cond_cases P s.tally.entered (stopped 0 0 s) (stopped 27 file_length s) (done end) (without end))
+    cond_cases P (is_some s.tally.entry) (stopped 0 0 s) (stopped 27 file_length s) (done end) (without end))
     (λ e. cond_cases P (ltb (file_length - s.next) 16) (stopped 17 s.next s) (awaiting s)
     (λ f. short (eqb-false s.next file_length e)) (λ f. on (ltb-false (file_length - s.next) 16 f)))
 
@@ -125,20 +126,20 @@ judged-cases P rs s t (n, codes) refused f =
 -- how a run has ended: done at the file's end with an entry; before any store, at the magic; refused at a command;
 -- or at the file's end without an entry
 pub data Ended (on : Setting) (s : State) (stop : Stop) : Type 0 where
-  at-end : stop.code ≡ 0 → s.next ≡ on.job.length → s.tally.entered ≡ true → Ended on s stop
+  at-end : stop.code ≡ 0 → s.next ≡ on.job.length → is_some s.tally.entry ≡ true → Ended on s stop
   at-magic : stop.code ≡ 16 → s.tally.stored ≡ 0 → Ended on s stop
   at-command : 17 ≤ stop.code → stop.code ≤ 26 → Ended on s stop
-  without-entry : stop.code ≡ 27 → s.next ≡ on.job.length → s.tally.entered ≡ false → Ended on s stop
+  without-entry : stop.code ≡ 27 → s.next ≡ on.job.length → is_some s.tally.entry ≡ false → Ended on s stop
 
 pub ended-done : (on : Setting) (s : State) (stop : Stop) → Ended on s stop → stop.code ≡ 0
-    → (s.next ≡ on.job.length) × (s.tally.entered ≡ true)
+    → (s.next ≡ on.job.length) × (is_some s.tally.entry ≡ true)
 ended-done on s stop (at-end c n f) q = (n, f)
 ended-done on s stop (at-magic c n) q = absurd (omega arith)
 ended-done on s stop (at-command l u) q = absurd (omega arith)
 ended-done on s stop (without-entry c n f) q = absurd (omega arith)
 
 pub ended-without : (on : Setting) (s : State) (stop : Stop) → Ended on s stop → stop.code ≡ 27
-    → (s.next ≡ on.job.length) × (s.tally.entered ≡ false)
+    → (s.next ≡ on.job.length) × (is_some s.tally.entry ≡ false)
 ended-without on s stop (at-end c n f) q = absurd (omega arith)
 ended-without on s stop (at-magic c n) q = absurd (omega arith)
 ended-without on s stop (at-command l u) q = absurd (omega arith)
@@ -183,7 +184,7 @@ pub record Stands (on : Setting) (s : State) : Type 0 where
   pub order : s.start ≤ s.next
   pub inside : s.next ≤ on.job.length
   pub counted : s.tally.commands ≤ s.next
-  pub enters : s.tally.entry ≤ limit on.job.mode
+  pub enters : unwrap_or s.tally.entry 0 ≤ limit on.job.mode
   pub meant : Meant on s.phase s
 
 -- the stores are bytes along one range that is RAM and reachable
@@ -198,7 +199,7 @@ pub record Proper (on : Setting) (at : ℕ) (before : Tally) (t : Effect) : Type
   pub order : t.state.start ≤ t.state.next
   pub commands : t.state.tally.commands ≤ suc before.commands
   pub stored : t.state.tally.stored ≡ before.stored + length t.stores
-  pub enters : before.entry ≤ limit on.job.mode → t.state.tally.entry ≤ limit on.job.mode
+  pub enters : unwrap_or before.entry 0 ≤ limit on.job.mode → unwrap_or t.state.tally.entry 0 ≤ limit on.job.mode
   pub along : Along on t.stores
   pub meant : Meant on t.state.phase t.state
 
@@ -229,7 +230,7 @@ module _ (on : Setting) (u : State) (order : u.start ≤ u.next) where
 
 module _ (on : Setting) (u s : State) (xs : List Store) (next : s.next ≡ u.next) (order : s.start ≤ s.next)
     (inside : s.next ≤ on.job.length) (stored : s.tally.stored ≡ u.tally.stored + length xs)
-    (enters : u.tally.entry ≤ limit on.job.mode → s.tally.entry ≤ limit on.job.mode) (along : Along on xs) where
+    (enters : unwrap_or u.tally.entry 0 ≤ limit on.job.mode → unwrap_or s.tally.entry 0 ≤ limit on.job.mode) (along : Along on xs) where
   begins-proper : s.tally.commands ≤ suc u.tally.commands
       → Proper on u.next u.tally (record { state = command_begins on.job.length s; stores = xs })
   begins-proper commands =
@@ -256,7 +257,7 @@ module _ (on : Setting) (u s : State) (xs : List Store) (next : s.next ≡ u.nex
 module _ (on : Setting) (u : State) (order : u.start ≤ u.next) (inside : u.next ≤ on.job.length) where
   finished-with : (s : State) (xs : List Store) → s.next ≡ u.next → s.start ≡ u.start → s.tally.commands ≡ u.tally.commands
       → s.tally.stored ≡ u.tally.stored + length xs
-      → (u.tally.entry ≤ limit on.job.mode → s.tally.entry ≤ limit on.job.mode) → Along on xs
+      → (unwrap_or u.tally.entry 0 ≤ limit on.job.mode → unwrap_or s.tally.entry 0 ≤ limit on.job.mode) → Along on xs
       → Proper on u.next u.tally (record { state = finished on.job.length s; stores = xs })
   unfolding finished
   finished-with s xs next start commands stored enters along =

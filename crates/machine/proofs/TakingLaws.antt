@@ -1,10 +1,10 @@
 -- What the bytes that are taken at once do, from what every state that a run comes to satisfies.
-use mathlib.Core.Bool.{Bool, true, false, cond}
+use mathlib.Core.Bool.{Bool, true, cond}
 use mathlib.Core.Path.{◌≡◌, refl, sym, ap, subst, ◌∙◌}
 use mathlib.Core.List.{List, [], ◌++◌}
 use Prim.Native.Nat.{ℕ, ◌+◌, ◌-◌, ◌^◌, ◌≤◌, ◌<◌, min}
 use native.Mathlib.Omega.{arith}
-use borrow.Author.Tests.{lt-ltb, le-ltb, le-leb, leb-true, leb-false}
+use borrow.Author.Tests.{lt-ltb, le-ltb, le-leb, leb-true}
 use lib.Dec.{eqb, lit≤}
 use lib.ListN.{length, take, drop, length-append, length-take, length-drop, take-append-drop, drop_of_length-le}
 use lib.Seq.{take_all, drop-drop}
@@ -15,7 +15,7 @@ use Rattle.board.specs.Map.{Region, regions, uncovered, ram, map_rules}
 use Rattle.board.specs.Reach.{limit}
 use Rattle.board.proofs.MapLaws.{map-means, ordered-holds}
 use Rattle.machine.specs.Code.{state_of}
-use Rattle.machine.specs.Commands.{data_length, judged_bytes, wrong_length}
+use Rattle.machine.specs.Commands.{data_length, wrong_length}
 use Rattle.machine.specs.ContractWords.{
   effects,
   kept_all,
@@ -25,25 +25,26 @@ use Rattle.machine.specs.ContractWords.{
   Done,
   Used,
   Gathers,
-  Took,
   Ready,
   Lent,
   Roomy,
-  Awaits,
+  phase_of,
+  awaited,
+  says,
   Gathered,
   Passed,
   Stores,
 }
 use Rattle.machine.specs.Machine.{Setting, State, Effect, setting_of, begun, no_stores, tallied, with_stored, run, trace, stores_from}
 use Rattle.machine.specs.Memory.{applied}
-use Rattle.machine.specs.declared.Command.{Command}
+use Rattle.machine.specs.declared.Awaited.{Awaited}
 use Rattle.machine.specs.declared.Control.{Control}
 use Rattle.machine.specs.declared.Job.{Job}
 use Rattle.machine.specs.declared.Phase.{Phase}
-use Rattle.machine.specs.declared.Phase.TheVariants.{Magic, Header, Parameters, Storing, Skipping, Stopped}
+use Rattle.machine.specs.declared.Phase.TheVariants.{Storing, Skipping, Stopped}
 use Rattle.machine.proofs.CodeLaws.{judged-few, done-no_stores, done-same}
 use Rattle.machine.proofs.MemoryLaws.{applied-append}
-use Rattle.machine.proofs.Pieces.{effects-storing, effects-skipping}
+use Rattle.machine.proofs.Pieces.{effects-magic, effects-header, effects-parameters, effects-storing, effects-skipping}
 use Rattle.machine.proofs.ReachedLaws.{reached-stands, reached-stored}
 use Rattle.machine.proofs.Runs.{begun-reached, run-append, trace-append, run-stopped, trace-stopped, piece-reached}
 use Rattle.machine.proofs.Standing.{Stands, Meant, header-kept, judged-in-data}
@@ -88,11 +89,20 @@ module _ {job : Job} {map table : List ℕ} {memory : ℕ} {s : State} (r : Read
 limit-few : (mode : ℕ) → limit mode ≤ 2 ^ 52
 limit-few mode = cond_cases (λ (n : ℕ). n ≤ 2 ^ 52) (eqb mode 32) (2 ^ 32) (2 ^ 52) (λ e. lit≤ tt) (λ e. lit≤ tt)
 
+-- `all` bytes are awaited, which the file has, and not all of them are there
+pub record Awaits (all : ℕ) (c : Control) (gathered : List ℕ) (file_length : ℕ) : Type 0 where
+  pub short : file_length ≤ 2 ^ 30
+  pub room : length gathered ≡ 104
+  pub bound : all ≤ 104
+  pub missing : c.kept < all
+  pub ahead : c.next + (all - c.kept) ≤ file_length
+  pub counts : Roomy c file_length
+
 -- what each phase may ask of a state that a run comes to
 module _ {job : Job} {map table : List ℕ} {memory : ℕ} (c : Control) (g : List ℕ) (room : length g ≡ 104)
     (r : Ready job map table memory (state_of c g)) where
-  pub awaits-magic : c.phase ≡ Magic → Awaits 8 c g job.length
-  awaits-magic e =
+  pub awaits : (w : Awaited) → c.phase ≡ phase_of w → Awaits (awaited w) c g job.length
+  awaits Awaited.Magic e =
       let m = ready-meant r e in
       let n = length-take c.kept g in
       record {
@@ -103,9 +113,7 @@ module _ {job : Job} {map table : List ℕ} {memory : ℕ} (c : Control) (g : Li
         ahead = omega (arith, m.0, m.1, m.2, n);
         counts = ready-room r c (omega (arith, m.1, m.2)) refl;
       }
-
-  pub awaits-header : c.phase ≡ Header → Awaits 16 c g job.length
-  awaits-header e =
+  awaits Awaited.Header e =
       let m = ready-meant r e in
       let n = length-take c.kept g in
       record {
@@ -116,9 +124,7 @@ module _ {job : Job} {map table : List ℕ} {memory : ℕ} (c : Control) (g : Li
         ahead = omega (arith, m.0, m.1, m.2, n);
         counts = ready-room r c (omega (arith, m.0, m.1, m.2)) refl;
       }
-
-  pub awaits-parameters : (k : Command) → c.phase ≡ Parameters k → Awaits (16 + judged_bytes k) c g job.length
-  awaits-parameters k e =
+  awaits (Awaited.Parameters k) e =
       let m = ready-meant r e in
       let n = length-take c.kept g in
       let few = judged-few k in
@@ -132,8 +138,14 @@ module _ {job : Job} {map table : List ℕ} {memory : ℕ} (c : Control) (g : Li
         counts = ready-room r c (omega (arith, m.0, m.2, m.4, in-data)) refl;
       }
 
-  pub header-passed : (k : Command) → c.phase ≡ Parameters k → Passed k (state_of c g)
-  header-passed k e = let m = ready-meant r e in record { header = m.1; right = m.3 }
+  -- and the header of a command is still its own behind more bytes
+  pub passed-still : (w : Awaited) → c.phase ≡ phase_of w → (xs : List ℕ) {t : State} → t ≡ kept_all xs (state_of c g) → Passed w t
+  passed-still Awaited.Magic e xs k = tt
+  passed-still Awaited.Header e xs k = tt
+  passed-still (Awaited.Parameters j) e xs k =
+      let m = ready-meant r e in
+      ap (λ (s : State). wrong_length j (data_length s.gathered)) k
+      ∙ ap (wrong_length j) (header-kept (state_of c g).gathered xs m.1).1 ∙ m.3
 
   pub stores-ahead : (a left : ℕ) → c.phase ≡ Storing a left → Stores c a left job.length × (ram (regions map) a left ≡ true)
   stores-ahead a left e =
@@ -159,26 +171,25 @@ module _ {job : Job} {map table : List ℕ} {memory : ℕ} (c : Control) (g : Li
 -- ---- bytes that are gathered
 
 -- by another name of how many are awaited
-pub gathers-as : {m n : ℕ} {c : Control} {g rest : List ℕ} {r : Control} {h : List ℕ} {used : ℕ} {whole : Bool} → m ≡ n
-    → Gathers m c g rest r h used whole → Gathers n c g rest r h used whole
-gathers-as {c = c} {g} {rest} {r} {h} {used} {whole} e k = subst (λ (all : ℕ). Gathers all c g rest r h used whole) e k
+pub gathers-as : {m n : ℕ} {c : Control} {g rest : List ℕ} {r : Control} {h : List ℕ} {used : ℕ} → m ≡ n
+    → Gathers m c g rest r h used → Gathers n c g rest r h used
+gathers-as {c = c} {g} {rest} {r} {h} {used} e k = subst (λ (all : ℕ). Gathers all c g rest r h used) e k
 
 -- as many are gathered as the control says
 gathered-long : {all : ℕ} {c : Control} {g : List ℕ} {file_length : ℕ} → Awaits all c g file_length → length (state_of c g).gathered ≡ c.kept
 gathered-long {c = c} {g} a = omega (arith, length-take c.kept g, a.room, a.bound, a.missing)
 
-module _ {all : ℕ} {c : Control} {g rest : List ℕ} {file_length : ℕ} {r : Control} {h : List ℕ} {n : ℕ} {whole : Bool}
-    (a : Awaits all c g file_length) (k : Gathers all c g rest r h n whole) where
+module _ {all : ℕ} {c : Control} {g rest : List ℕ} {file_length : ℕ} {r : Control} {h : List ℕ} {n : ℕ}
+    (a : Awaits all c g file_length) (k : Gathers all c g rest r h n) where
   together : length ((state_of c g).gathered ++ take n rest) ≡ c.kept + n
   together = rw length-append (omega (arith, gathered-long a, length-take n rest, k.many))
 
   -- when all are there they can be read
-  pub all_there : whole ≡ true → length h ≡ length g → Gathered all r h × Roomy r file_length
+  pub all_there : all ≤ r.kept → length h ≡ length g → Gathered all r h × Roomy r file_length
   all_there w l =
-      let all-kept = leb-true all (c.kept + n) (sym k.told ∙ w) in
       let next : r.next ≡ c.next + length (take n rest) = ap (λ (s : State). s.next) k.state in
       let tally : r.tally ≡ c.tally = ap (λ (s : State). s.tally) k.state in (
-        record { room = l ∙ a.room; kept = omega (arith, k.kept, k.many, a.missing, all-kept) },
+        record { room = l ∙ a.room; kept = omega (arith, k.kept, k.many, a.missing, w) },
         record {
           inside = omega (arith, next, length-take n rest, k.many, a.missing, a.ahead);
           commands = rw tally a.counts.commands;
@@ -186,50 +197,45 @@ module _ {all : ℕ} {c : Control} {g rest : List ℕ} {file_length : ℕ} {r : 
         },
       )
 
-  module _ (says : State → Effect) where
+  module _ (read : State → Effect) where
     -- and they are what is read
-    pub all_said : whole ≡ true → gather_all all says (state_of c g) (take n rest) ≡ says (state_of r h)
+    pub all_said : all ≤ r.kept → gather_all all read (state_of c g) (take n rest) ≡ read (state_of r h)
     all_said w =
         let t = kept_all (take n rest) (state_of c g) in
-        ap (λ (b : Bool). cond b (no_stores t) (says t))
-        (le-ltb (length t.gathered) all (omega (arith, together, leb-true all (c.kept + n) (sym k.told ∙ w))))
-        ∙ ap says (sym k.state)
+        ap (λ (b : Bool). cond b (no_stores t) (read t)) (le-ltb (length t.gathered) all (omega (arith, together, k.kept, w)))
+        ∙ ap read (sym k.state)
 
     -- else they wait
-    pub none_said : whole ≡ false → gather_all all says (state_of c g) (take n rest) ≡ no_stores (state_of r h)
+    pub none_said : r.kept < all → gather_all all read (state_of c g) (take n rest) ≡ no_stores (state_of r h)
     none_said w =
         let t = kept_all (take n rest) (state_of c g) in
-        ap (λ (b : Bool). cond b (no_stores t) (says t))
-        (lt-ltb (length t.gathered) all (omega (arith, together, leb-false all (c.kept + n) (sym k.told ∙ w))))
+        ap (λ (b : Bool). cond b (no_stores t) (read t)) (lt-ltb (length t.gathered) all (omega (arith, together, k.kept, w)))
         ∙ ap no_stores (sym k.state)
 
-    -- so what was taken is what the contract says
-    pub took-read : {t : State} → whole ≡ true → says (state_of r h) ≡ no_stores t → Took all says c g rest n t
-    took-read w e = record { many = k.many; effect = all_said w ∙ e }
-
-    pub took-kept : whole ≡ false → Took all says c g rest n (state_of r h)
-    took-kept w = record { many = k.many; effect = none_said w }
-
-  -- the header is still the command's
-  pub still-right : {j : Command} → Passed j (state_of c g) → wrong_length j (data_length (state_of r h).gathered) ≡ false
-  still-right {j} p =
-      ap (λ (s : State). wrong_length j (data_length s.gathered)) k.state
-      ∙ ap (wrong_length j) (header-kept (state_of c g).gathered (take n rest) p.header).1 ∙ p.right
+-- what bytes do that are gathered
+effects-gathered : (on : Setting) (w : Awaited) (s : State) (xs : List ℕ) → 0 < length xs → s.phase ≡ phase_of w
+    → length s.gathered + length xs ≤ awaited w → effects on s xs ≡ gather_all (awaited w) (says w on) s xs
+effects-gathered on Awaited.Magic s xs = effects-magic on s xs
+effects-gathered on Awaited.Header s xs = effects-header on s xs
+effects-gathered on (Awaited.Parameters k) s xs = λ some. effects-parameters on s xs some k
 
 -- n of the rest's bytes, as many as are awaited and at hand, are used
-module _ (on : Setting) {all : ℕ} {c : Control} {g : List ℕ} (rest : List ℕ) {file_length : ℕ} (a : Awaits all c g file_length)
-    (some : 0 < length rest) {n : ℕ} (many : n ≡ min (all - c.kept) (length rest)) where
-  pub some-gathered : 0 < length (take n rest)
-  some-gathered = omega (arith, length-take n rest, a.missing)
-
-  pub gathered-fits : length (state_of c g).gathered + length (take n rest) ≤ all
-  gathered-fits = omega (arith, length-take n rest, gathered-long a, a.missing)
-
-  pub used-gathered : (says : State → Effect) {t : State} {map : List Region} {before after : List ℕ}
-      → effects on (state_of c g) (take n rest) ≡ gather_all all says (state_of c g) (take n rest)
-      → Done (gather_all all says (state_of c g) (take n rest)) t map before after → Used on (state_of c g) rest n t map before after
-  used-gathered says e d =
-      record { progress = omega (arith, a.missing); within = omega arith; done = done-same e d }
+module _ (on : Setting) (w : Awaited) {c : Control} {g : List ℕ} (rest : List ℕ) {file_length : ℕ}
+    (a : Awaits (awaited w) c g file_length) (p : c.phase ≡ phase_of w) (some : 0 < length rest) {n : ℕ}
+    (many : n ≡ min (awaited w - c.kept) (length rest)) where
+  pub used-gathered : {t : State} {map : List Region} {before after : List ℕ}
+      → Done (gather_all (awaited w) (says w on) (state_of c g) (take n rest)) t map before after
+      → Used on (state_of c g) rest n t map before after
+  used-gathered d =
+      record {
+        progress = omega (arith, a.missing);
+        within = omega arith;
+        done =
+            done-same
+            (effects-gathered on w (state_of c g) (take n rest) (omega (arith, length-take n rest, a.missing)) p
+            (omega (arith, length-take n rest, gathered-long a, a.missing)))
+            d;
+      }
 
 -- ---- bytes of a command's data
 
@@ -289,125 +295,94 @@ used-stopped on s rest map m p h =
 
 -- ---- some bytes after others
 
--- what is left to do after `at` bytes of a piece is as much as was at `at₀`
-pub record Left (on : Setting) (map : List Region) (piece : List ℕ)
-    (s₀ : State) (m₀ : List ℕ) (at₀ : ℕ) (s : State) (m : List ℕ) (at : ℕ) : Type 0 where
-  pub state : run on s₀ (drop at₀ piece) ≡ run on s (drop at piece)
-  pub memory : applied map m₀ (trace on s₀ (drop at₀ piece)) ≡ applied map m (trace on s (drop at piece))
+-- what is left to do after `at` bytes of a piece is what the piece does to the state s₀ and the memory m₀
+pub record Left (on : Setting) (map : List Region) (piece : List ℕ) (s₀ : State) (m₀ : List ℕ) (s : State) (m : List ℕ) (at : ℕ) : Type 0 where
+  pub state : run on s₀ piece ≡ run on s (drop at piece)
+  pub memory : applied map m₀ (trace on s₀ piece) ≡ applied map m (trace on s (drop at piece))
 
-module _ (on : Setting) (map : List Region) (piece : List ℕ) where
-  left-all : (s : State) (m : List ℕ) (at : ℕ) → Left on map piece s m at s m at
-  left-all s m at = record { state = refl; memory = refl }
+module _ (on : Setting) (map : List Region) (piece : List ℕ) {s₀ : State} {m₀ : List ℕ} {s : State} {m : List ℕ} {at : ℕ}
+    (l : Left on map piece s₀ m₀ s m at) where
+  left-used : {n : ℕ} {t : State} {k : List ℕ} → Used on s (drop at piece) n t map m k → Left on map piece s₀ m₀ t k (at + n)
+  left-used {n} {t} {k} u =
+      let d = drop at piece in
+      let split : take n d ++ drop n d ≡ d = take-append-drop n d in
+      let rest : drop n d ≡ drop (at + n) piece = drop-drop n at piece in
+      let done = u.done in
+      record {
+        state =
+            l.state ∙ ap (run on s) (sym split) ∙ run-append on s (take n d) (drop n d)
+            ∙ ap (λ (v : State). run on v (drop n d)) (sym done.state) ∙ ap (run on t) rest;
+        memory =
+            l.memory ∙ ap (λ (xs : List ℕ). applied map m (trace on s xs)) (sym split)
+            ∙ ap (applied map m) (trace-append on s (take n d) (drop n d))
+            ∙ applied-append map m (trace on s (take n d)) (trace on (run on s (take n d)) (drop n d))
+            ∙ ap (λ (v : State). applied map (applied map m (trace on s (take n d))) (trace on v (drop n d))) (sym done.state)
+            ∙ ap (λ (z : List ℕ). applied map z (trace on t (drop n d))) (sym done.memory)
+            ∙ ap (λ (xs : List ℕ). applied map k (trace on t xs)) rest;
+      }
 
-  module _ {s₀ : State} {m₀ : List ℕ} {at₀ : ℕ} {s : State} {m : List ℕ} {at : ℕ} (l : Left on map piece s₀ m₀ at₀ s m at) where
-    left-on : {t : State} {k : List ℕ} {to : ℕ} → Left on map piece s m at t k to → Left on map piece s₀ m₀ at₀ t k to
-    left-on r = record { state = l.state ∙ r.state; memory = l.memory ∙ r.memory }
+  -- nothing is left
+  left-none : length piece ≤ at → Done (effects on s₀ piece) s map m₀ m
+  unfolding run trace applied
+  left-none none =
+      let e : drop at piece ≡ [] = drop_of_length-le piece none in
+      record {
+        state = sym (l.state ∙ ap (run on s) e);
+        memory = sym (l.memory ∙ ap (λ (xs : List ℕ). applied map m (trace on s xs)) e);
+      }
 
-    left-used : {n : ℕ} {t : State} {k : List ℕ} → Used on s (drop at piece) n t map m k → Left on map piece s₀ m₀ at₀ t k (at + n)
-    left-used {n} {t} {k} u =
-        let d = drop at piece in
-        let split : take n d ++ drop n d ≡ d = take-append-drop n d in
-        let rest : drop n d ≡ drop (at + n) piece = drop-drop n at piece in
-        let done = u.done in
-        record {
-          state =
-              l.state ∙ ap (run on s) (sym split) ∙ run-append on s (take n d) (drop n d)
-              ∙ ap (λ (v : State). run on v (drop n d)) (sym done.state) ∙ ap (run on t) rest;
-          memory =
-              l.memory ∙ ap (λ (xs : List ℕ). applied map m (trace on s xs)) (sym split)
-              ∙ ap (applied map m) (trace-append on s (take n d) (drop n d))
-              ∙ applied-append map m (trace on s (take n d)) (trace on (run on s (take n d)) (drop n d))
-              ∙ ap (λ (v : State). applied map (applied map m (trace on s (take n d))) (trace on v (drop n d))) (sym done.state)
-              ∙ ap (λ (z : List ℕ). applied map z (trace on t (drop n d))) (sym done.memory)
-              ∙ ap (λ (xs : List ℕ). applied map k (trace on t xs)) rest;
-        }
-
-    -- nothing is left
-    pub left-none : length piece ≤ at → Done (effects on s₀ (drop at₀ piece)) s map m₀ m
-    unfolding run trace applied
-    left-none none =
-        let e : drop at piece ≡ [] = drop_of_length-le piece none in
-        record {
-          state = sym (l.state ∙ ap (run on s) e);
-          memory = sym (l.memory ∙ ap (λ (xs : List ℕ). applied map m (trace on s xs)) e);
-        }
-
-    -- the run has stopped
-    pub left-stopped : {stop : Stop} → s.phase ≡ Stopped stop → Done (effects on s₀ (drop at₀ piece)) s map m₀ m
-    unfolding applied
-    left-stopped e =
-        record {
-          state = sym (l.state ∙ run-stopped on s (drop at piece) e);
-          memory = sym (l.memory ∙ ap (applied map m) (trace-stopped on s (drop at piece) e));
-        }
+  -- the run has stopped
+  left-stopped : {stop : Stop} → s.phase ≡ Stopped stop → Done (effects on s₀ piece) s map m₀ m
+  unfolding applied
+  left-stopped e =
+      record {
+        state = sym (l.state ∙ run-stopped on s (drop at piece) e);
+        memory = sym (l.memory ∙ ap (applied map m) (trace-stopped on s (drop at piece) e));
+      }
 
 -- ---- the loops over a piece
 
--- what holds at the head of a loop that began at `at₀` in the state of s₀ and gathered₀ with memory₀
-pub record Going (job : Job) (map table piece gathered₀ memory₀ : List ℕ) (s₀ : Control) (at₀ : ℕ)
-    (gathered memory : List ℕ) (s : Control) (at : ℕ) : Type 0 where
+-- what holds at the head of both loops over a piece, which began in the state of s₀ and gathered₀ with memory₀
+pub record Going (job : Job) (map table piece gathered₀ memory₀ : List ℕ) (s₀ : Control) (gathered memory : List ℕ) (s : Control) (at : ℕ) : Type 0 where
   pub long : length gathered ≡ 104
-  pub same-gathered : length gathered ≡ length gathered₀
   pub same_memory : length memory ≡ length memory₀
-  pub rises : at₀ ≤ at
   pub within : at ≤ length piece
   pub ready : Ready job map table (length memory) (state_of s gathered)
-  pub left : Left (setting_of job map table) (regions map) piece (state_of s₀ gathered₀) memory₀ at₀ (state_of s gathered) memory at
+  pub left : Left (setting_of job map table) (regions map) piece (state_of s₀ gathered₀) memory₀ (state_of s gathered) memory at
 
-pub going_start : {job : Job} {map table piece gathered memory : List ℕ} {s : Control} {at : ℕ} → length gathered ≡ 104 → at ≤ length piece
-    → Ready job map table (length memory) (state_of s gathered) → Going job map table piece gathered memory s at gathered memory s at
-going_start {job} {map} {table} {piece} {gathered} {memory} {s} {at} l w r =
-    record {
-      long = l;
-      same-gathered = refl;
-      same_memory = refl;
-      rises = omega arith;
-      within = w;
-      ready = r;
-      left = left-all (setting_of job map table) (regions map) piece (state_of s gathered) memory at;
-    }
+pub going_start : {job : Job} {map table piece gathered memory : List ℕ} {s : Control} → length gathered ≡ 104
+    → Ready job map table (length memory) (state_of s gathered) → Going job map table piece gathered memory s gathered memory s 0
+going_start l r =
+    record { long = l; same_memory = refl; within = omega arith; ready = r; left = record { state = refl; memory = refl } }
 
-module _ {job : Job} {map table piece gathered₀ memory₀ : List ℕ} {s₀ : Control} {at₀ : ℕ} {gathered memory : List ℕ} {s : Control} {at : ℕ}
-    (g : Going job map table piece gathered₀ memory₀ s₀ at₀ gathered memory s at) where
-  -- the inner loop begins where the outer one stands
-  pub going-inner : Going job map table piece gathered memory s at gathered memory s at
-  going-inner = going_start g.long g.within g.ready
-
-  -- what the inner loop did, the outer one has done
-  pub going-over : {gathered₁ memory₁ : List ℕ} {s₁ : Control} {at₁ : ℕ}
-      → Going job map table piece gathered memory s at gathered₁ memory₁ s₁ at₁
-      → Going job map table piece gathered₀ memory₀ s₀ at₀ gathered₁ memory₁ s₁ at₁
-  going-over i =
-      record {
-        long = i.long;
-        same-gathered = i.same-gathered ∙ g.same-gathered;
-        same_memory = i.same_memory ∙ g.same_memory;
-        rises = omega (arith, g.rises, i.rises);
-        within = i.within;
-        ready = i.ready;
-        left = left-on (setting_of job map table) (regions map) piece g.left i.left;
-      }
-
+module _ {job : Job} {map table piece gathered₀ memory₀ : List ℕ} {s₀ : Control} {gathered memory : List ℕ} {s : Control} {at : ℕ}
+    (g : Going job map table piece gathered₀ memory₀ s₀ gathered memory s at) where
   -- some bytes are taken, of the rest as the code lends it
   pub going_on : {rest gathered₁ memory₁ : List ℕ} {t : Control} {n : ℕ} → rest ≡ drop at piece
       → Used (setting_of job map table) (state_of s gathered) rest n (state_of t gathered₁) (regions map) memory memory₁
       → length gathered₁ ≡ length gathered → length memory₁ ≡ length memory
-      → Going job map table piece gathered₀ memory₀ s₀ at₀ gathered₁ memory₁ t (at + n)
+      → Going job map table piece gathered₀ memory₀ s₀ gathered₁ memory₁ t (at + n)
   going_on {rest} {gathered₁} {memory₁} {t} {n} e u lg lm =
       let on = setting_of job map table in
       let v : Used on (state_of s gathered) (drop at piece) n (state_of t gathered₁) (regions map) memory memory₁ =
       subst (λ (xs : List ℕ). Used on (state_of s gathered) xs n (state_of t gathered₁) (regions map) memory memory₁) e u in
       record {
         long = lg ∙ g.long;
-        same-gathered = lg ∙ g.same-gathered;
         same_memory = lm ∙ g.same_memory;
-        rises = omega (arith, g.rises);
         within = omega (arith, g.within, v.within, length-drop at piece);
         ready =
             subst (λ (m : ℕ). Ready job map table m (state_of t gathered₁)) (sym lm)
             (ready-again g.ready (take n (drop at piece)) v.done.state);
         left = left-used (setting_of job map table) (regions map) piece g.left v;
       }
+
+  pub going-none : length piece ≤ at
+      → Done (effects (setting_of job map table) (state_of s₀ gathered₀) piece) (state_of s gathered) (regions map) memory₀ memory
+  going-none = left-none (setting_of job map table) (regions map) piece g.left
+
+  pub going-stopped : {stop : Stop} → s.phase ≡ Stopped stop
+      → Done (effects (setting_of job map table) (state_of s₀ gathered₀) piece) (state_of s gathered) (regions map) memory₀ memory
+  going-stopped = left-stopped (setting_of job map table) (regions map) piece g.left
 
 -- the rest of a piece, as a part of it up to its end
 pub rest_of : (piece : List ℕ) (at : ℕ) → take (length piece - at) (drop at piece) ≡ drop at piece

@@ -1,5 +1,5 @@
 -- The theorems of the command machine and of running bare, each with the sentence that it carries.
-use mathlib.Core.Bool.{Bool, true, false, true≢false, ◌&&◌, cond}
+use mathlib.Core.Bool.{Bool, true, true≢false, ◌&&◌, cond}
 use mathlib.Core.Path.{◌≡◌, refl, sym, ap, ap₂, subst, ◌∙◌}
 use mathlib.Core.List.Memᴰ
 use mathlib.Core.List.{List, [], ◌∷◌, ◌++◌, append-nil, Memᴰ}
@@ -10,6 +10,7 @@ use native.Mathlib.Omega.{arith}
 use borrow.Author.Tests.{eq-eqb, ne_eqb, leb-true, le-leb, lt-leb}
 use lib.Dec.{eqb, leb, lit≤}
 use lib.ListN.{length, get_or, take, length-append}
+use Rattle.std.specs.Prelude.{Option, Some, None, is_some, unwrap_or}
 use Rattle.octets.specs.Parts.{part}
 use Rattle.answers.specs.Answers.{Outcome, answered, answer_after, written_after, record_length, stop_at}
 use Rattle.answers.specs.Rules.{Rule, first_broken, size_rules}
@@ -30,17 +31,7 @@ use Rattle.machine.specs.declared.Command.{Command}
 use Rattle.machine.specs.declared.Command.TheVariants.{Write}
 use Rattle.machine.specs.declared.Phase.TheVariants.{Storing, Stopped}
 use Rattle.machine.proofs.BareLaws.{bare-cases, bare-runs, bare-short, bare-taken, bare-answered}
-use Rattle.machine.proofs.History.{
-  commands_done,
-  entered_by,
-  NoEntry,
-  LastEntry,
-  run-account,
-  last_entry,
-  none-entered,
-  no-entry-entered,
-  last-entry-entered,
-}
+use Rattle.machine.proofs.History.{commands_done, enters, NoEntry, LastEntry, run-account, last_entry, none-entered, no-entry-entered, last-entry-entered}
 use Rattle.machine.proofs.Judging.{CommandAt, StoreOf, store_of, stop_halts, storing-whole, Complete, AtEnd, complete-ends}
 use Rattle.machine.proofs.MemoryLaws.{byte-kept, byte-stored, last-at, length-applied}
 use Rattle.machine.proofs.Places.{
@@ -141,12 +132,12 @@ stored-counts-stores on bytes =
 -- the entry is the last one's.
 pub done-means : (on : Setting) (bytes : List ℕ) {place : ℕ} → (ran on bytes).phase ≡ Stopped (stop_at 0 place)
     → ((ran on bytes).next ≡ on.job.length)
-    × ((c : List ℕ) × LastEntry (commands_done on (begun on.job.length) bytes) c × ((ran on bytes).tally.entry ≡ address c))
+    × ((c : List ℕ) × LastEntry (commands_done on (begun on.job.length) bytes) c × ((ran on bytes).tally.entry ≡ Some (address c)))
 done-means on bytes {place} e =
     let cs = commands_done on (begun on.job.length) bytes in
     let account = run-account on (begun on.job.length) bytes (begun-stands on) in
     let (n, f) = ended-done on (ran on bytes) (stop_at 0 place) (reached-ended on (ran on bytes) (bytes, refl) e) refl in
-    let (c, l, a) = last_entry cs 0 (sym account.entered ∙ f) in
+    let (c, l, a) = last_entry cs None (sym (ap is_some account.entry) ∙ f) in
     (n, (c, l, account.entry ∙ a))
 
 -- Done is not said before as many bytes have come as the file has.
@@ -254,8 +245,8 @@ module _ (on : Setting) (bytes : List ℕ) where
   abbrev cs : List (List ℕ)
   cs = commands_done on (begun on.job.length) bytes
 
-  entered-is : (ran on bytes).tally.entered ≡ entered_by cs false
-  entered-is = (run-account on (begun on.job.length) bytes (begun-stands on)).entered
+  entered-is : is_some (ran on bytes).tally.entry ≡ enters cs
+  entered-is = ap is_some (run-account on (begun on.job.length) bytes (begun-stands on)).entry
 
   -- 27 is judged last: at the file's end, when every byte is used, and without an entry command.
   pub no-entry-means : {stop : Stop} → (ran on bytes).phase ≡ Stopped stop → stop.code ≡ 27
@@ -268,7 +259,7 @@ module _ (on : Setting) (bytes : List ℕ) where
         n,
         omega (arith, run-next-le on (begun on.job.length) bytes (begun-stands on)),
         ((stop_halts on bytes e).magic (λ w. omega (arith, w)), at),
-        (none-entered cs 0 (sym entered-is ∙ f)).1,
+        (none-entered cs None (sym entered-is ∙ f)).1,
       )
     where
       placed : Placed on (first_byte on bytes) stop → (stop.place ≡ on.job.length) × (first_byte on bytes ≡ on.job.length)
@@ -298,7 +289,7 @@ module _ (on : Setting) (bytes : List ℕ) where
       complete e (by-command i j k m) = absurd (omega arith)
       complete e (no-entry c z i) = absurd (omega arith)
 
-      go : entered_by cs false ≡ true → AtEnd on bytes → (ran on bytes).phase ≡ Stopped (stop_at 0 0)
+      go : enters cs ≡ true → AtEnd on bytes → (ran on bytes).phase ≡ Stopped (stop_at 0 0)
       go f (inl (e, g)) = e
       go f (inr (e, g)) = absurd (true≢false (sym f ∙ sym entered-is ∙ g))
 
@@ -341,7 +332,7 @@ answer-fits on bytes stop short order small code place =
       commands = omega (arith, h.counted, h.inside);
       stored = omega (arith, reached-stored on order small s (bytes, refl), h.inside);
       entry =
-          cond_cases (λ (n : ℕ). n < 2 ^ 64) (eqb stop.code 0) s.tally.entry 0
+          cond_cases (λ (n : ℕ). n < 2 ^ 64) (eqb stop.code 0) (unwrap_or s.tally.entry 0) 0
           (λ e. omega (arith, reached-entry on s (bytes, refl))) (λ e. omega arith);
     }
 
@@ -387,7 +378,7 @@ module _ (b : Bare) where
   pub refusal-has-no-entry : (memory : ℕ) → (bare_answer_made b memory).code ≢ 0 → (bare_answer_made b memory).entry ≡ 0
   refusal-has-no-entry memory =
       bare-cases b (λ (a : Answer) (xs : List Store). a.code ≢ 0 → a.entry ≡ 0) memory (λ code l u n. refl)
-      (λ h stop e q n. ap (λ (t : Bool). cond t (bare_end b).tally.entry 0) (ne_eqb stop.code 0 n))
+      (λ h stop e q n. ap (λ (t : Bool). cond t (unwrap_or (bare_end b).tally.entry 0) 0) (ne_eqb stop.code 0 n))
 
   -- The record's bytes stored is the number of the stores made.
   pub record-counts-stores : (memory : ℕ) → (bare_answer_made b memory).stored ≡ length (bare_stores_made b memory)
@@ -582,8 +573,15 @@ module _ (b : Bare) where
       (λ e. bare-cases b (λ (a : Answer) (xs : List Store). a.code ≡ 0 → Done a) (length memory)
       (λ code l u n. absurd (omega arith))
       (λ h stop q r n.
-      let (used, (c, l, a)) = done-means setting b.file (q ∙ ap (λ (x : ℕ). Stopped (stop_at x stop.place)) n) in
-      (used, (c, l, ap (λ (t : Bool). cond t (bare_end b).tally.entry 0) (eq-eqb stop.code 0 n) ∙ a))))
+      let (used, (c, l, a)) = done-means setting b.file (q ∙ ap (λ (x : ℕ). Stopped (stop_at x stop.place)) n) in (
+        used,
+        (
+          c,
+          l,
+          ap (λ (t : Bool). cond t (unwrap_or (bare_end b).tally.entry 0) 0) (eq-eqb stop.code 0 n)
+              ∙ ap (λ (o : Option ℕ). unwrap_or o 0) a,
+        ),
+      )))
       (λ e n. absurd (omega arith))
     where
       Done : Answer → Type 0

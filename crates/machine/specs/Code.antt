@@ -15,9 +15,5 @@ state_of c gathered =
       tally = c.tally;
     }
 
-abbrev pub control_of : Machine → Control
-control_of m =
-    record { phase = m.phase; kept = m.kept; start = m.start; next = m.next; tally = m.tally }
-
 abbrev pub machine_of : Machine → State
-machine_of m = state_of (control_of m) m.gathered
+machine_of m = state_of m.control m.gathered

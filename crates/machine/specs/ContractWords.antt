@@ -1,21 +1,40 @@
 -- What contracts say besides the machine itself.
-use Rattle.std.specs.Prelude.{Bool, true, false, cond, ◌≡◌, List, ◌++◌, ℕ, ◌+◌, ◌-◌, ◌≤◌, ◌<◌, ◌^◌, min, eqb, leb, ltb, length, take}
+use Rattle.std.specs.Prelude.{Bool, true, false, cond, ◌≡◌, List, ◌++◌, ℕ, ◌+◌, ◌-◌, ◌≤◌, ◌<◌, ◌^◌, ⊤, min, eqb, ltb, length, take}
 use Rattle.answers.specs.Rules.{first_broken}
 use Rattle.board.specs.Map.{Region, regions, ordered, total, map_rules}
 use Rattle.machine.specs.Code.{state_of}
-use Rattle.machine.specs.Commands.{data_length, wrong_length}
-use Rattle.machine.specs.Machine.{Setting, State, Effect, setting_of, no_stores, in_phase, finished, run, trace}
+use Rattle.machine.specs.Commands.{data_length, judged_bytes, wrong_length}
+use Rattle.machine.specs.Machine.{
+  Setting,
+  State,
+  Effect,
+  setting_of,
+  no_stores,
+  in_phase,
+  magic_read,
+  header_read,
+  parameters_read,
+  finished,
+  run,
+  trace,
+}
 use Rattle.machine.specs.Memory.{applied}
 use Rattle.machine.specs.Reached.{Reached}
-use Rattle.machine.specs.declared.Command.{Command}
+use Rattle.machine.specs.declared.Awaited.{Awaited}
+use Rattle.machine.specs.declared.Awaited.TheVariants.{Magic, Header, Parameters}
 use Rattle.machine.specs.declared.Control.{Control}
 use Rattle.machine.specs.declared.Job.{Job}
 use Rattle.machine.specs.declared.Phase.{Phase}
-use Rattle.machine.specs.declared.Phase.TheVariants.{Magic, Header, Parameters, Storing, Skipping, Stopped}
+use Rattle.machine.specs.declared.Phase.TheVariants.{Storing, Skipping, Stopped}
+use Rattle.machine.specs.declared.Setting as code
 
 -- what the bytes do together: the state after them, and the stores that they cause
 abbrev pub effects : Setting → State → List ℕ → Effect
 effects e s xs = record { state = run e s xs; stores = trace e s xs }
+
+-- what a run is held against
+abbrev pub held : code.Setting → Setting
+held on = setting_of on.job on.map.now on.table.now
 
 -- the bytes are used: kept behind those gathered
 abbrev pub kept_all : List ℕ → State → State
@@ -39,11 +58,29 @@ data_used file_length n left p s =
     record { phase = s.phase; gathered = s.gathered; start = s.start; next = s.next + n; tally = s.tally } in
     cond (eqb left n) (finished file_length u) (in_phase p u)
 
+-- ---- what bytes are gathered for
+
+abbrev pub phase_of : Awaited → Phase
+phase_of Magic = Phase.Magic
+phase_of Header = Phase.Header
+phase_of (Parameters k) = Phase.Parameters k
+
+-- how many are awaited, and what they say when all are there
+abbrev pub awaited : Awaited → ℕ
+awaited Magic = 8
+awaited Header = 16
+awaited (Parameters k) = 16 + judged_bytes k
+
+abbrev pub says : Awaited → Setting → State → Effect
+says Magic e = magic_read e.job.length
+says Header e = header_read e.job.length
+says (Parameters k) e = parameters_read k e
+
 -- whether a command's last byte has been used, or it was refused
 abbrev pub is_over : Phase → ℕ → Bool
-is_over Magic kept = false
-is_over Header kept = eqb kept 0
-is_over (Parameters k) kept = false
+is_over Phase.Magic kept = false
+is_over Phase.Header kept = eqb kept 0
+is_over (Phase.Parameters k) kept = false
 is_over (Storing a left) kept = false
 is_over (Skipping left) kept = false
 is_over (Stopped stop) kept = true
@@ -70,16 +107,10 @@ pub record Used (e : Setting) (s : State) (rest : List ℕ) (used : ℕ) (t : St
   pub done : Done (effects e s (take used rest)) t map before after
 
 -- as many of the rest's bytes as are awaited, up to `all`, and at hand are kept behind those gathered
-pub record Gathers (all : ℕ) (c : Control) (gathered rest : List ℕ) (r : Control) (after : List ℕ) (used : ℕ) (whole : Bool) : Type 0 where
+pub record Gathers (all : ℕ) (c : Control) (gathered rest : List ℕ) (r : Control) (after : List ℕ) (used : ℕ) : Type 0 where
   pub many : used ≡ min (all - c.kept) (length rest)
   pub state : state_of r after ≡ kept_all (take used rest) (state_of c gathered)
   pub kept : r.kept ≡ c.kept + used
-  pub told : whole ≡ leb all (c.kept + used)
-
--- as many are gathered, and when all are there what they say is done; it stores nothing
-pub record Took (all : ℕ) (says : State → Effect) (c : Control) (gathered rest : List ℕ) (used : ℕ) (t : State) : Type 0 where
-  pub many : used ≡ min (all - c.kept) (length rest)
-  pub effect : gather_all all says (state_of c gathered) (take used rest) ≡ no_stores t
 
 -- ---- what they may ask
 
@@ -101,24 +132,16 @@ pub record Roomy (c : Control) (file_length : ℕ) : Type 0 where
   pub commands : c.tally.commands + 1 < 2 ^ 64
   pub stored : c.tally.stored + 2 ^ 32 < 2 ^ 64
 
--- `all` bytes are awaited, which the file has, and not all of them are there
-pub record Awaits (all : ℕ) (c : Control) (gathered : List ℕ) (file_length : ℕ) : Type 0 where
-  pub short : file_length ≤ 2 ^ 30
-  pub room : length gathered ≡ 104
-  pub bound : all ≤ 104
-  pub missing : c.kept < all
-  pub ahead : c.next + (all - c.kept) ≤ file_length
-  pub counts : Roomy c file_length
-
 -- `all` bytes are there
 pub record Gathered (all : ℕ) (c : Control) (gathered : List ℕ) : Type 0 where
   pub room : length gathered ≡ 104
   pub kept : c.kept ≡ all
 
--- the command's header is there, and its length has passed
-pub record Passed (k : Command) (s : State) : Type 0 where
-  pub header : 16 ≤ length s.gathered
-  pub right : wrong_length k (data_length s.gathered) ≡ false
+-- of a command's parameters: its length has passed
+abbrev pub Passed : Awaited → State → Type 0
+Passed Magic s = ⊤
+Passed Header s = ⊤
+Passed (Parameters k) s = wrong_length k (data_length s.gathered) ≡ false
 
 -- `left` bytes of a write are to come, which the file has, and its addresses do not wrap
 pub record Stores (c : Control) (address left file_length : ℕ) : Type 0 where

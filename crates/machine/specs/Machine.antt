@@ -1,6 +1,6 @@
 -- The written machine: what each proved byte of a command file does. (T1, F14 and the like: docs/FORMAT.md.)
 -- It is told the unit and the file's length, and it never sees memory: it answers with the stores to make.
-use Rattle.std.specs.Prelude.{true, false, cond, List, [], ◌∷◌, ◌++◌, ℕ, suc, pred, ◌+◌, ◌-◌, eqb, ltb, length, replicate}
+use Rattle.std.specs.Prelude.{cond, List, [], ◌∷◌, ◌++◌, ℕ, suc, pred, ◌+◌, ◌-◌, eqb, ltb, length, replicate, Option, Some, None, is_some, unwrap_or}
 use Rattle.octets.specs.Numbers.{little}
 use Rattle.answers.specs.Answers.{stop_at, told}
 use Rattle.answers.specs.Rules.{first_broken}
@@ -25,8 +25,6 @@ use Rattle.machine.specs.Commands.{
 }
 use Rattle.machine.specs.declared.Command.{Command}
 use Rattle.machine.specs.declared.Command.TheVariants.{Write, Fill, Entry, Check}
-use Rattle.machine.specs.declared.Halt.{Halt}
-use Rattle.machine.specs.declared.Halt.TheVariants.{At, Not}
 use Rattle.machine.specs.declared.Job.{Job}
 use Rattle.machine.specs.declared.Named.{Named}
 use Rattle.machine.specs.declared.Named.TheVariants.{Known, Skipped, Unknown}
@@ -93,15 +91,14 @@ tallied t s = record { phase = s.phase; gathered = s.gathered; start = s.start; 
 -- T13: bytes stored counts every store, repeats included
 abbrev pub with_stored : ℕ → Tally → Tally
 with_stored n t =
-    record { commands = t.commands; stored = t.stored + n; entry = t.entry; entered = t.entered }
+    record { commands = t.commands; stored = t.stored + n; entry = t.entry }
 
 -- F14: the last entry counts
 abbrev pub with_entry : ℕ → Tally → Tally
-with_entry a t = record { commands = t.commands; stored = t.stored; entry = a; entered = true }
+with_entry a t = record { commands = t.commands; stored = t.stored; entry = Some a }
 
 abbrev pub with_command : Tally → Tally
-with_command t =
-    record { commands = suc t.commands; stored = t.stored; entry = t.entry; entered = t.entered }
+with_command t = record { commands = suc t.commands; stored = t.stored; entry = t.entry }
 
 -- the bytes of a command are awaited
 abbrev pub awaiting : State → State
@@ -111,7 +108,7 @@ awaiting s = record { phase = Header; gathered = []; start = s.next; next = s.ne
 -- entry command; 17 with 1 to 15 bytes left; else a command begins.
 unfoldable pub command_begins : ℕ → State → State
 command_begins file_length s =
-    cond (eqb s.next file_length) (cond s.tally.entered (stopped 0 0 s) (stopped 27 file_length s))
+    cond (eqb s.next file_length) (cond (is_some s.tally.entry) (stopped 0 0 s) (stopped 27 file_length s))
     (cond (ltb (file_length - s.next) 16) (stopped 17 s.next s) (awaiting s))
 
 -- T11: a command counts as done when its last byte has been used
@@ -214,23 +211,23 @@ begun file_length =
       gathered = [];
       start = 0;
       next = 0;
-      tally = record { commands = 0; stored = 0; entry = 0; entered = false };
+      tally = record { commands = 0; stored = 0; entry = None };
     }
 
 -- whether a run has stopped, and with what
-abbrev pub halted : Phase → Halt
-halted Magic = Not
-halted Header = Not
-halted (Parameters k) = Not
-halted (Storing a left) = Not
-halted (Skipping left) = Not
-halted (Stopped stop) = At stop
+abbrev pub halted : Phase → Option Stop
+halted Magic = None
+halted Header = None
+halted (Parameters k) = None
+halted (Storing a left) = None
+halted (Skipping left) = None
+halted (Stopped stop) = Some stop
 
 -- the stop of a run that has stopped; of one that has not, the given one
-abbrev pub stop_or : Stop → Halt → Stop
-stop_or otherwise (At stop) = stop
-stop_or otherwise Not = otherwise
+abbrev pub stop_or : Stop → Option Stop → Stop
+stop_or otherwise (Some stop) = stop
+stop_or otherwise None = otherwise
 
 -- P6, P7, P9: the answer of a stop, with the counts as they stand; entry is 0 on refusal
 abbrev pub answer_of : Stop → Tally → Answer
-answer_of stop t = told stop t.commands t.stored (cond (eqb stop.code 0) t.entry 0)
+answer_of stop t = told stop t.commands t.stored (cond (eqb stop.code 0) (unwrap_or t.entry 0) 0)

@@ -31,11 +31,9 @@ pub fn run_bare(
     let job = Job { length, mode };
     let end = crate::take_piece(crate::begin(length), file, job, map, table, memory);
     // the whole file always stops the machine, so this stop is never given
-    let stop = crate::stop_or(
-        answers::stop_at(codes::NO_ENTRY, length),
-        crate::halted(end),
-    );
-    answers::write_answer(answer, crate::answer_of(stop, end.tally))
+    let unstopped = answers::stop_at(codes::NO_ENTRY, length);
+    let stop = crate::halted(end).unwrap_or(unstopped);
+    answers::write_answer(answer, crate::answer_of(stop, end.control.tally))
 }
 
 // What is judged before the file is looked at: 0, or the refusal.

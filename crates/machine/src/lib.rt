@@ -23,6 +23,14 @@ pub struct Job {
     pub mode: u64,
 }
 
+// What a run is held against: its job, and the unit's map and table.
+#[derive(Clone, Copy)]
+pub struct Setting<'a> {
+    pub job: Job,
+    pub map: &'a [u8],
+    pub table: &'a [u8],
+}
+
 // The commands that act on the unit.
 #[derive(Clone, Copy)]
 pub enum Command {
@@ -38,6 +46,14 @@ pub enum Named {
     Known(Command),
     Skipped,
     Unknown,
+}
+
+// What bytes are gathered for, to be judged when all are there.
+#[derive(Clone, Copy)]
+pub enum Awaited {
+    Magic,
+    Header,
+    Parameters(Command),
 }
 
 // What the next byte is read as.
@@ -57,36 +73,16 @@ pub enum Phase {
     Stopped(Stop),
 }
 
-// Whether a run has stopped, and with what.
-#[derive(Clone, Copy)]
-pub enum Halt {
-    At(Stop),
-    Not,
-}
-
 // What a run has done so far: commands done, bytes stored, and the last entry, if one was set.
 #[derive(Clone, Copy)]
 pub struct Tally {
     pub commands: u64,
     pub stored: u64,
-    pub entry: u64,
-    pub entered: bool,
+    pub entry: Option<u64>,
 }
 
-// Where a run stands between two pieces. The bytes so far of the magic, or of the command's header and parameters,
-// are the first `kept` of `gathered`; `start` and `next` are the file offsets of the command's first byte and of the
-// next byte.
-#[derive(Clone, Copy)]
-pub struct Machine {
-    pub phase: Phase,
-    pub gathered: [u8; GATHERED],
-    pub kept: usize,
-    pub start: u64,
-    pub next: u64,
-    pub tally: Tally,
-}
-
-// A machine while it takes a piece: without its gathered bytes, so that these are not copied at each step.
+// Where a run stands, but for the bytes so far of the magic, or of the command's header and parameters, of which there
+// are `kept`; `start` and `next` are the file offsets of the command's first byte and of the next byte.
 #[derive(Clone, Copy)]
 pub struct Control {
     pub phase: Phase,
@@ -96,19 +92,19 @@ pub struct Control {
     pub tally: Tally,
 }
 
+// Where a run stands between two pieces: these bytes are the first `kept` of `gathered`, which are not copied at each
+// step of a piece.
+#[derive(Clone, Copy)]
+pub struct Machine {
+    pub control: Control,
+    pub gathered: [u8; GATHERED],
+}
+
 // What bytes leave: the control, and how many of them were used.
 #[derive(Clone, Copy)]
 pub struct Taken {
     pub control: Control,
     pub used: usize,
-}
-
-// What gathering leaves: the control, how many bytes were used, and whether all that are awaited are there.
-#[derive(Clone, Copy)]
-pub struct Gathering {
-    pub control: Control,
-    pub used: usize,
-    pub whole: bool,
 }
 
 // The magic number that a command file begins with.
@@ -124,26 +120,25 @@ pub const GATHERED: usize = 104;
 pub fn begin(length: u64) -> Machine
     ensures { machine_of result ≡ spec.begun length }
 {
-    let ready = Machine {
-        phase: Phase::Magic,
-        gathered: [0u8; GATHERED],
+    let phase = if length < MAGIC_LENGTH {
+        Phase::Stopped(answers::stop_at(codes::FILE_MAGIC, 0))
+    } else {
+        Phase::Magic
+    };
+    let tally = Tally {
+        commands: 0,
+        stored: 0,
+        entry: None,
+    };
+    let control = Control {
+        phase,
         kept: 0,
         start: 0,
         next: 0,
-        tally: Tally {
-            commands: 0,
-            stored: 0,
-            entry: 0,
-            entered: false,
-        },
+        tally,
     };
-    if length < MAGIC_LENGTH {
-        return Machine {
-            phase: Phase::Stopped(answers::stop_at(codes::FILE_MAGIC, 0)),
-            ..ready
-        };
-    }
-    ready
+    let gathered = [0u8; GATHERED];
+    Machine { control, gathered }
 }
 
 // Takes the next bytes of the file, all of them proved: a piece of any length.
@@ -161,63 +156,29 @@ pub fn take_piece(
         × (memory.new ≡ applied (regions map.now) memory.old
         (spec.trace (spec.setting_of job map.now table.now) (machine_of m) piece.now)) }
 {
-    let phase = m.phase;
-    let tally = m.tally;
     let mut gathered = m.gathered;
-    let c = Control {
-        phase,
-        kept: m.kept,
-        start: m.start,
-        next: m.next,
-        tally,
-    };
-    let end = taking::take_all(c, &mut gathered, piece, job, map, table, memory);
-    let phase_now = end.phase;
-    let tally_now = end.tally;
-    Machine {
-        phase: phase_now,
-        gathered,
-        kept: end.kept,
-        start: end.start,
-        next: end.next,
-        tally: tally_now,
-    }
+    let on = Setting { job, map, table };
+    let control = taking::take_all(m.control, &mut gathered, piece, on, memory);
+    Machine { control, gathered }
 }
 
-// Whether a run has stopped, and with what.
-pub fn halted(m: Machine) -> Halt
-    ensures { result ≡ spec.halted m.phase }
+// The stop of a run that has stopped.
+pub fn halted(m: Machine) -> Option<Stop>
+    ensures { result ≡ spec.halted m.control.phase }
 {
-    let phase = m.phase;
-    match phase {
-        Phase::Magic => Halt::Not,
-        Phase::Header => Halt::Not,
-        Phase::Parameters(_) => Halt::Not,
-        Phase::Storing {
-            address: _,
-            left: _,
-        } => Halt::Not,
-        Phase::Skipping { left: _ } => Halt::Not,
-        Phase::Stopped(stop) => Halt::At(stop),
+    match m.control.phase {
+        Phase::Stopped(stop) => Some(stop),
+        _ => None,
     }
 }
 
-// The stop of a run that has stopped; of one that has not, the given one.
-pub fn stop_or(otherwise: Stop, halt: Halt) -> Stop
-    ensures { result ≡ spec.stop_or otherwise halt }
-{
-    match halt {
-        Halt::At(stop) => stop,
-        Halt::Not => otherwise,
-    }
-}
-
-// The answer of a stop, with the counts as they stand; entry is 0 on refusal.
+// The answer of a stop, with the counts as they stand; entry is 0 on refusal, and where none was set.
 pub fn answer_of(stop: Stop, tally: Tally) -> Answer
     ensures { result ≡ spec.answer_of stop tally }
 {
-    if stop.code == codes::DONE {
-        return answers::told(stop, tally.commands, tally.stored, tally.entry);
-    }
-    answers::told(stop, tally.commands, tally.stored, 0)
+    let entry = match tally.entry {
+        Some(address) if stop.code == codes::DONE => address,
+        _ => 0,
+    };
+    answers::told(stop, tally.commands, tally.stored, entry)
 }

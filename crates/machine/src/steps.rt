@@ -4,10 +4,11 @@ ghost use Rattle.board.specs.Cpuid.{leaves};
 ghost use Rattle.board.specs.Map.{ordered, regions};
 ghost use Rattle.machine.specs.Code.{state_of};
 ghost use Rattle.machine.specs.Commands.{data_length, judged_bytes, wrong_length};
-ghost use Rattle.machine.specs.ContractWords.{Steps, Says, Roomy, Lent, Gathered, Done, data_used};
+ghost use Rattle.machine.specs.ContractWords as contract;
+ghost use Rattle.machine.specs.ContractWords.{Steps, Says, Roomy, Lent, Gathered, Passed, Done, says, held, data_used};
 ghost use Rattle.machine.specs.Machine as spec;
 
-use crate::{Command, Control, Job, Named, Phase, Tally, commands, memory};
+use crate::{Awaited, Command, Control, Job, Named, Phase, Setting, Tally, commands, memory};
 use answers::codes;
 use octets::numbers;
 
@@ -27,8 +28,7 @@ fn with_entry(t: Tally, address: u64) -> Tally
     ensures { result ≡ spec.with_entry address t }
 {
     Tally {
-        entry: address,
-        entered: true,
+        entry: Some(address),
         ..t
     }
 }
@@ -67,7 +67,7 @@ fn command_begins(c: Control, length: u64) -> Control
 {
     let left = length - c.next;
     if left == 0 {
-        if c.tally.entered {
+        if c.tally.entry.is_some() {
             return stopped(c, codes::DONE, 0);
         }
         return stopped(c, codes::NO_ENTRY, length);
@@ -103,8 +103,33 @@ pub fn data_used(c: Control, n: u64, left: u64, phase: Phase, length: u64) -> Co
     Control { phase, next, ..c }
 }
 
+// How many bytes are awaited.
+pub fn awaited(what: Awaited) -> u64
+    ensures { result ≡ contract.awaited what }
+{
+    match what {
+        Awaited::Magic => crate::MAGIC_LENGTH,
+        Awaited::Header => commands::HEADER,
+        Awaited::Parameters(k) => commands::HEADER + commands::judged_bytes(k),
+    }
+}
+
+// All that are awaited are there.
+pub fn read(c: Control, what: Awaited, gathered: &[u8], on: Setting, memory: &mut [u8]) -> Control
+    requires { Gathered (contract.awaited what) c gathered.now × Passed what (state_of c gathered.now)
+        × Roomy c on.job.length × Lent on.map.now (length memory.old) }
+    ensures { Done (says what (held on.entry) (state_of c gathered.now)) (state_of result gathered.now)
+        (regions on.entry.map.now) memory.old memory.new }
+{
+    match what {
+        Awaited::Magic => magic_read(c, gathered, on.job.length),
+        Awaited::Header => header_read(c, gathered, on.job.length),
+        Awaited::Parameters(k) => parameters_read(c, k, gathered, on, memory),
+    }
+}
+
 // The magic is judged when its 8 bytes are there.
-pub fn magic_read(c: Control, gathered: &[u8], length: u64) -> Control
+fn magic_read(c: Control, gathered: &[u8], length: u64) -> Control
     requires { Gathered 8 c gathered.now × Roomy c length }
     ensures { spec.magic_read length (state_of c gathered.now) ≡ spec.no_stores (state_of result gathered.now) }
 {
@@ -115,7 +140,7 @@ pub fn magic_read(c: Control, gathered: &[u8], length: u64) -> Control
 }
 
 // A header is judged when its 16 bytes are there.
-pub fn header_read(c: Control, gathered: &[u8], length: u64) -> Control
+fn header_read(c: Control, gathered: &[u8], length: u64) -> Control
     requires { Gathered 16 c gathered.now × Roomy c length }
     ensures { spec.header_read length (state_of c gathered.now) ≡ spec.no_stores (state_of result gathered.now) }
 {
@@ -158,64 +183,61 @@ fn skipped_read(c: Control, n: u64, length: u64) -> Control
 }
 
 // What a command is judged by is there.
-pub fn parameters_read(
+fn parameters_read(
     c: Control,
     k: Command,
     gathered: &[u8],
-    job: Job,
-    map: &[u8],
-    table: &[u8],
+    on: Setting,
     memory: &mut [u8],
 ) -> Control
     requires { Gathered (16 + judged_bytes k) c gathered.now × (wrong_length k (data_length (state_of c gathered.now).gathered) ≡ false)
-        × Roomy c job.length × Lent map.now (length memory.old) }
-    ensures { Done (spec.parameters_read k (spec.setting_of job map.now table.now)
-        (state_of c gathered.now)) (state_of result gathered.now) (regions map.now) memory.old
-        memory.new }
+        × Roomy c on.job.length × Lent on.map.now (length memory.old) }
+    ensures { Done (spec.parameters_read k (held on.entry) (state_of c gathered.now)) (state_of result gathered.now)
+        (regions on.entry.map.now) memory.old memory.new }
 {
     match k {
-        Command::Write => write_read(c, gathered, job, map),
-        Command::Fill => fill_read(c, gathered, job, map, memory),
-        Command::Entry => entry_read(c, gathered, job),
-        Command::Check => check_read(c, gathered, job.length, table),
+        Command::Write => write_read(c, gathered, on),
+        Command::Fill => fill_read(c, gathered, on, memory),
+        Command::Entry => entry_read(c, gathered, on.job),
+        Command::Check => check_read(c, gathered, on),
     }
 }
 
 // A write's address is judged over its whole range.
-fn write_read(c: Control, gathered: &[u8], job: Job, map: &[u8]) -> Control
-    requires { Gathered 24 c gathered.now × (8 ≤ data_length (state_of c gathered.now).gathered) × Roomy c job.length
-        × (ordered 0 (regions map.now) ≡ true) }
-    ensures { spec.write_read job (regions map.now) (state_of c gathered.now)
+fn write_read(c: Control, gathered: &[u8], on: Setting) -> Control
+    requires { Gathered 24 c gathered.now × (8 ≤ data_length (state_of c gathered.now).gathered) × Roomy c on.job.length
+        × (ordered 0 (regions on.map.now) ≡ true) }
+    ensures { spec.write_read on.entry.job (regions on.entry.map.now) (state_of c gathered.now)
         ≡ spec.no_stores (state_of result gathered.now) }
 {
     let left = numbers::little8(gathered, commands::DATA_LENGTH) - commands::WRITE;
     let address = numbers::little8(gathered, commands::ADDRESS);
-    let code = commands::range_code(map, job.mode, address, left);
+    let code = commands::range_code(on.map, on.job.mode, address, left);
     if code != codes::DONE {
         return refused(c, code);
     }
     if left == 0 {
-        return finished(c, job.length);
+        return finished(c, on.job.length);
     }
     let phase = Phase::Storing { address, left };
     Control { phase, ..c }
 }
 
 // A fill is stored in one go.
-fn fill_read(c: Control, gathered: &[u8], job: Job, map: &[u8], memory: &mut [u8]) -> Control
-    requires { Gathered 40 c gathered.now × Roomy c job.length × Lent map.now (length memory.old) }
-    ensures { Done (spec.fill_read job (regions map.now) (state_of c gathered.now))
-        (state_of result gathered.now) (regions map.now) memory.old memory.new }
+fn fill_read(c: Control, gathered: &[u8], on: Setting, memory: &mut [u8]) -> Control
+    requires { Gathered 40 c gathered.now × Roomy c on.job.length × Lent on.map.now (length memory.old) }
+    ensures { Done (spec.fill_read on.entry.job (regions on.entry.map.now) (state_of c gathered.now))
+        (state_of result gathered.now) (regions on.entry.map.now) memory.old memory.new }
 {
     let address = numbers::little8(gathered, commands::ADDRESS);
     let n = numbers::little8(gathered, 24);
-    let code = commands::range_code(map, job.mode, address, n);
+    let code = commands::range_code(on.map, on.job.mode, address, n);
     if code != codes::DONE {
         return refused(c, code);
     }
-    memory::fill(address, n, gathered[32], map, memory);
+    memory::fill(address, n, gathered[32], on.map, memory);
     let tally = with_stored(c.tally, n);
-    finished(Control { tally, ..c }, job.length)
+    finished(Control { tally, ..c }, on.job.length)
 }
 
 fn entry_read(c: Control, gathered: &[u8], job: Job) -> Control
@@ -231,14 +253,14 @@ fn entry_read(c: Control, gathered: &[u8], job: Job) -> Control
     finished(Control { tally, ..c }, job.length)
 }
 
-fn check_read(c: Control, gathered: &[u8], length: u64, table: &[u8]) -> Control
-    requires { Gathered 104 c gathered.now × Roomy c length }
-    ensures { spec.check_read length (leaves table.now) (state_of c gathered.now)
+fn check_read(c: Control, gathered: &[u8], on: Setting) -> Control
+    requires { Gathered 104 c gathered.now × Roomy c on.job.length }
+    ensures { spec.check_read on.entry.job.length (leaves on.entry.table.now) (state_of c gathered.now)
         ≡ spec.no_stores (state_of result gathered.now) }
 {
-    let code = commands::check_code(gathered, table);
+    let code = commands::check_code(gathered, on.table);
     if code != codes::DONE {
         return refused(c, code);
     }
-    finished(c, length)
+    finished(c, on.job.length)
 }

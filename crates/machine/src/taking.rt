@@ -3,14 +3,14 @@ ghost use Rattle.std.specs.Prelude.{true, false, ◌≡◌, ◌+◌, ◌≤◌, 
 ghost use Rattle.std.proofs.Math.ListN as list;
 ghost use Rattle.board.specs.Map.{regions, ram};
 ghost use Rattle.machine.specs.Code.{state_of};
-ghost use Rattle.machine.specs.Commands.{judged_bytes};
 ghost use Rattle.machine.specs.ContractWords as contract;
-ghost use Rattle.machine.specs.ContractWords.{Awaits, Gathers, Took, Done, Lent, Ready, Used, Steps, effects, gather_all, data_used};
+ghost use Rattle.machine.specs.ContractWords.{Gathers, Done, Lent, Ready, Used, Steps, effects, held, phase_of, data_used};
 ghost use Rattle.machine.specs.Machine as spec;
 ghost use Rattle.machine.specs.Memory.{applied};
 
-use crate::{Command, Control, Gathering, Job, Phase, Taken, commands, memory, steps};
+use crate::{Awaited, Control, Phase, Setting, Taken, memory, steps};
 use octets::parts;
+use std::cmp::min;
 
 // What the bytes of a piece do. The outer loop has a turn for each command, and one for the magic, which is no command;
 // the inner one takes its bytes. Both are left where the piece is used up.
@@ -18,31 +18,26 @@ pub fn take_all(
     c: Control,
     gathered: &mut [u8],
     piece: &[u8],
-    job: Job,
-    map: &[u8],
-    table: &[u8],
+    on: Setting,
     memory: &mut [u8],
 ) -> Control
     requires { (list.length gathered.old ≡ 104)
-        × Ready job map.now table.now (list.length memory.old) (state_of c gathered.old) }
-    ensures { Done (effects (spec.setting_of job map.now table.now) (state_of c gathered.old)
-        piece.now) (state_of result gathered.new) (regions map.now) memory.old
-        memory.new }
+        × Ready on.job on.map.now on.table.now (list.length memory.old) (state_of c gathered.old) }
+    ensures { Done (effects (held on.entry) (state_of c gathered.old) piece.now) (state_of result gathered.new)
+        (regions on.entry.map.now) memory.old memory.new }
 {
     let mut s = c;
     let mut at = 0;
     'piece: loop {
-        let phase = s.phase;
-        if let Phase::Stopped(_) = phase {
+        if let Phase::Stopped(_) = s.phase {
             break;
         }
         loop {
             if piece.len() <= at {
                 break 'piece;
             }
-            let t = take(s, gathered, &piece[at..], job, map, table, memory);
-            let control = t.control;
-            s = control;
+            let t = take(s, gathered, &piece[at..], on, memory);
+            s = t.control;
             at += t.used;
             if is_over(s) {
                 continue 'piece;
@@ -56,45 +51,28 @@ pub fn take_all(
 fn is_over(c: Control) -> bool
     ensures { result ≡ contract.is_over c.phase c.kept }
 {
-    let phase = c.phase;
-    match phase {
-        Phase::Magic => false,
+    match c.phase {
         Phase::Header => c.kept == 0,
-        Phase::Parameters(_) => false,
-        Phase::Storing {
-            address: _,
-            left: _,
-        } => false,
-        Phase::Skipping { left: _ } => false,
         Phase::Stopped(_) => true,
+        _ => false,
     }
 }
 
 // What the next bytes do: as many as the phase can use at once, at least one.
-fn take(
-    c: Control,
-    gathered: &mut [u8],
-    rest: &[u8],
-    job: Job,
-    map: &[u8],
-    table: &[u8],
-    memory: &mut [u8],
-) -> Taken
+fn take(c: Control, gathered: &mut [u8], rest: &[u8], on: Setting, memory: &mut [u8]) -> Taken
     requires { (0 < list.length rest.now) × (list.length gathered.old ≡ 104)
-        × Ready job map.now table.now (list.length memory.old) (state_of c gathered.old) }
-    ensures { Used (spec.setting_of job map.now table.now) (state_of c gathered.old)
-        rest.now result.used (state_of result.control gathered.new) (regions map.now) memory.old
-        memory.new }
+        × Ready on.job on.map.now on.table.now (list.length memory.old) (state_of c gathered.old) }
+    ensures { Used (held on.entry) (state_of c gathered.old) rest.now result.used
+        (state_of result.control gathered.new) (regions on.entry.map.now) memory.old memory.new }
 {
-    let phase = c.phase;
-    match phase {
-        Phase::Magic => take_magic(c, gathered, rest, job.length),
-        Phase::Header => take_header(c, gathered, rest, job.length),
-        Phase::Parameters(k) => take_parameters(c, k, gathered, rest, job, map, table, memory),
-        Phase::Storing { address, left } => {
-            take_stored(c, address, left, rest, job.length, map, memory)
+    match c.phase {
+        Phase::Magic => take_gathered(c, Awaited::Magic, gathered, rest, on, memory),
+        Phase::Header => take_gathered(c, Awaited::Header, gathered, rest, on, memory),
+        Phase::Parameters(k) => {
+            take_gathered(c, Awaited::Parameters(k), gathered, rest, on, memory)
         }
-        Phase::Skipping { left } => take_skipped(c, left, rest, job.length),
+        Phase::Storing { address, left } => take_stored(c, address, left, rest, on, memory),
+        Phase::Skipping { left } => take_skipped(c, left, rest, on.job.length),
         // a run that has stopped absorbs all bytes
         Phase::Stopped(_) => Taken {
             control: c,
@@ -103,100 +81,43 @@ fn take(
     }
 }
 
-// The bytes of the magic are gathered, and read when all are there.
-fn take_magic(c: Control, gathered: &mut [u8], rest: &[u8], length: u64) -> Taken
-    requires { Awaits 8 c gathered.old length }
-    ensures { Took 8 (spec.magic_read length) c gathered.old rest.now result.used
-        (state_of result.control gathered.new) }
-{
-    let g = gather(c, crate::MAGIC_LENGTH, gathered, rest);
-    let control = g.control;
-    if g.whole {
-        let read = steps::magic_read(control, gathered, length);
-        return Taken {
-            control: read,
-            used: g.used,
-        };
-    }
-    Taken {
-        control,
-        used: g.used,
-    }
-}
-
-// The same of a command's header.
-fn take_header(c: Control, gathered: &mut [u8], rest: &[u8], length: u64) -> Taken
-    requires { Awaits 16 c gathered.old length }
-    ensures { Took 16 (spec.header_read length) c gathered.old rest.now result.used
-        (state_of result.control gathered.new) }
-{
-    let g = gather(c, commands::HEADER, gathered, rest);
-    let control = g.control;
-    if g.whole {
-        let read = steps::header_read(control, gathered, length);
-        return Taken {
-            control: read,
-            used: g.used,
-        };
-    }
-    Taken {
-        control,
-        used: g.used,
-    }
-}
-
-// The same of what a command is judged by besides its header.
-fn take_parameters(
+// Bytes are gathered, and read when all that are awaited are there.
+fn take_gathered(
     c: Control,
-    k: Command,
+    what: Awaited,
     gathered: &mut [u8],
     rest: &[u8],
-    job: Job,
-    map: &[u8],
-    table: &[u8],
+    on: Setting,
     memory: &mut [u8],
 ) -> Taken
-    requires { Awaits (16 + judged_bytes k) c gathered.old job.length × contract.Passed k (state_of c gathered.old)
-        × Lent map.now (list.length memory.old) }
-    ensures { (result.used ≡ min (16 + judged_bytes k - c.kept) (list.length rest.now))
-        × Done (gather_all (16 + judged_bytes k) (spec.parameters_read k (spec.setting_of job map.now table.now))
-        (state_of c gathered.old) (take result.used rest.now)) (state_of result.control gathered.new)
-        (regions map.now) memory.old memory.new }
+    requires { (0 < list.length rest.now) × (list.length gathered.old ≡ 104) × (c.phase ≡ phase_of what)
+        × Ready on.job on.map.now on.table.now (list.length memory.old) (state_of c gathered.old) }
+    ensures { Used (held on.entry) (state_of c gathered.old) rest.now result.used
+        (state_of result.control gathered.new) (regions on.entry.map.now) memory.old memory.new }
 {
-    let all = commands::HEADER + commands::judged_bytes(k);
-    let g = gather(c, all, gathered, rest);
-    let control = g.control;
-    if g.whole {
-        let read = steps::parameters_read(control, k, gathered, job, map, table, memory);
-        return Taken {
-            control: read,
-            used: g.used,
-        };
+    let all = steps::awaited(what);
+    let t = gather(c, all, gathered, rest);
+    if (t.control.kept as u64) < all {
+        return t;
     }
-    Taken {
-        control,
-        used: g.used,
-    }
+    let control = steps::read(t.control, what, gathered, on, memory);
+    Taken { control, ..t }
 }
 
 // As many bytes are kept as are awaited, up to `all`, and at hand.
-fn gather(c: Control, all: u64, gathered: &mut [u8], rest: &[u8]) -> Gathering
+fn gather(c: Control, all: u64, gathered: &mut [u8], rest: &[u8]) -> Taken
     requires { (c.kept ≤ all) × (all ≤ list.length gathered.old) × (c.next + (all - c.kept) < 2 ^ 64) }
-    ensures { Gathers all c gathered.old rest.now result.control gathered.new result.used result.whole }
+    ensures { Gathers all c gathered.old rest.now result.control gathered.new result.used }
 {
     let kept = c.kept;
-    let n = fewer(all - (kept as u64), rest.len());
+    let n = min(all - (kept as u64), rest.len() as u64) as usize;
     parts::copy(gathered, kept, &rest[..n]);
     let control = Control {
         kept: kept + n,
         next: c.next + (n as u64),
         ..c
     };
-    Gathering {
-        control,
-        used: n,
-        whole: all <= ((kept + n) as u64),
-    }
+    Taken { control, used: n }
 }
 
 // Bytes of a write's data are stored from its address on as they come.
@@ -205,27 +126,26 @@ fn take_stored(
     address: u64,
     left: u64,
     rest: &[u8],
-    length: u64,
-    map: &[u8],
+    on: Setting,
     memory: &mut [u8],
 ) -> Taken
-    requires { contract.Stores c address left length × Lent map.now (list.length memory.old)
-        × (ram (regions map.now) address left ≡ true) }
-    ensures { (memory.new ≡ applied (regions map.now) memory.old
+    requires { contract.Stores c address left on.job.length × Lent on.map.now (list.length memory.old)
+        × (ram (regions on.map.now) address left ≡ true) }
+    ensures { (memory.new ≡ applied (regions on.entry.map.now) memory.old
         (spec.stores_from address (take result.used rest.now)))
         × (result.used ≡ min left (list.length rest.now))
-        × Steps c result.control (λ s. data_used length result.used left (Phase.Storing (address + result.used) (left - result.used))
+        × Steps c result.control (λ s. data_used on.entry.job.length result.used left (Phase.Storing (address + result.used) (left - result.used))
         (spec.tallied (spec.with_stored result.used s.tally) s)) }
 {
-    let used = fewer(left, rest.len());
-    memory::store(address, &rest[..used], map, memory);
-    let n = used as u64;
+    let n = min(left, rest.len() as u64);
+    let used = n as usize;
+    memory::store(address, &rest[..used], on.map, memory);
     let tally = steps::with_stored(c.tally, n);
     let phase = Phase::Storing {
         address: address + n,
         left: left - n,
     };
-    let control = steps::data_used(Control { tally, ..c }, n, left, phase, length);
+    let control = steps::data_used(Control { tally, ..c }, n, left, phase, on.job.length);
     Taken { control, used }
 }
 
@@ -235,19 +155,11 @@ fn take_skipped(c: Control, left: u64, rest: &[u8], length: u64) -> Taken
     ensures { (result.used ≡ min left (list.length rest.now))
         × Steps c result.control (data_used length result.used left (Phase.Skipping (left - result.used))) }
 {
-    let used = fewer(left, rest.len());
-    let n = used as u64;
+    let n = min(left, rest.len() as u64);
     let phase = Phase::Skipping { left: left - n };
     let control = steps::data_used(c, n, left, phase, length);
-    Taken { control, used }
-}
-
-// The fewer of the bytes awaited and those at hand.
-fn fewer(awaited: u64, there: usize) -> usize
-    ensures { result ≡ min awaited there }
-{
-    if awaited < (there as u64) {
-        return awaited as usize;
+    Taken {
+        control,
+        used: n as usize,
     }
-    there
 }
