@@ -9,18 +9,22 @@ use borrow.Author.Tests.{eq-eqb, ne_eqb, lt-ltb, le-ltb, not-false}
 use lib.Dec.{eqb, lit≤}
 use lib.ListN.{length, replicate, get_or, take, drop, length-append, length-take, drop_of_length-le}
 use lib.Seq.{drop-cons, take_at, take-take}
+use Rattle.std.specs.Prelude.{Result, Err}
 use Rattle.octets.specs.Numbers.{little}
 use Rattle.octets.specs.Parts.{part, put}
 use Rattle.octets.proofs.PartLaws.{part-of-take}
+use Rattle.answers.specs.Codes.{number}
 use Rattle.answers.specs.Rules.{first_broken}
+use Rattle.answers.specs.declared.codes.Refusal.{Refusal}
 use Rattle.answers.proofs.ChoiceLaws.{cond-eq, cond-ne}
+use Rattle.answers.proofs.RefusalLaws.{number-positive}
 use Rattle.answers.proofs.RuleLaws.{zero-all-hold}
 use Rattle.board.specs.Cpuid.{Leaf, lookup}
-use Rattle.board.specs.Map.{Region, regions, ram, offset}
-use Rattle.board.specs.Reach.{limit, reachable}
+use Rattle.board.specs.Map.{Region, regions, ordered, ram, offset}
+use Rattle.board.specs.Reach.{limit}
 use Rattle.board.proofs.MapLaws.{ordered-means, offset-fits}
 use Rattle.machine.specs.Code.{state_of}
-use Rattle.machine.specs.ContractWords.{kept_all, Done, Lent}
+use Rattle.machine.specs.ContractWords.{kept_all, after, Done, Lent}
 use Rattle.machine.specs.Commands.{
   has_zero,
   named,
@@ -122,14 +126,17 @@ judged-few Check = lit≤ tt
 
 -- ---- what is judged
 
--- the code that the code worked out is that of the rules: it stops the run, or the command goes on
-module _ (s : State) {code rules : ℕ} (same : code ≡ rules) (e : Effect) where
-  pub judged-stops : (code ≡ 0 → ⊥) → judged rules s e ≡ no_stores (stopped code s.start s)
-  judged-stops n =
-      ap (λ (r : ℕ). judged r s e) (sym same) ∙ cond-ne code 0 e (no_stores (stopped code s.start s)) n
+-- a command that is refused stops the run, one that is not goes on
+pub judged-stops : (c : Control) (h : List ℕ) (e : Effect) {rules : ℕ} (r : Result Control Refusal) (why : Refusal) → number why ≡ rules
+    → r ≡ Err why → judged rules (state_of c h) e ≡ no_stores (after c r h)
+judged-stops c h e r why same err =
+    ap (λ (n : ℕ). judged n (state_of c h) e) (sym same)
+    ∙ cond-ne (number why) 0 e (no_stores (stopped (number why) c.start (state_of c h)))
+    (λ z. let n = number-positive why in omega arith)
+    ∙ ap (λ (x : Result Control Refusal). no_stores (after c x h)) (sym err)
 
-  pub judged-goes : code ≡ 0 → judged rules s e ≡ e
-  judged-goes z = ap (λ (r : ℕ). judged r s e) (sym same ∙ z)
+pub judged-goes : (s : State) (e : Effect) {rules : ℕ} → 0 ≡ rules → judged rules s e ≡ e
+judged-goes s e same = ap (λ (n : ℕ). judged n s e) (sym same)
 
 module _ (file_length : ℕ) (s : State) where
   pub magic-passes : little s.gathered ≡ 0x8adc5fa2448cb65e → magic_read file_length s ≡ no_stores (command_begins file_length s)
@@ -149,28 +156,12 @@ module _ (file_length : ℕ) (s : State) where
 
 -- ---- the rules in order, by the tests that the code made
 
-module _ (map : List Region) (top a n : ℕ) where
-  pub out-of-reach : reachable top a n ≡ false → 20 ≡ first_broken (range_rules map top a n)
-  out-of-reach e = simp e
-
-  pub out-of-ram : reachable top a n ≡ true → ram map a n ≡ false → 21 ≡ first_broken (range_rules map top a n)
-  out-of-ram e f = simp (e, f)
-
-  pub in-range : reachable top a n ≡ true → ram map a n ≡ true → 0 ≡ first_broken (range_rules map top a n)
-  in-range e f = simp (e, f)
-
-  -- what a range that was judged says
-  pub range-ram : {code : ℕ} → code ≡ first_broken (range_rules map top a n) → code ≡ 0 → ram map a n ≡ true
-  range-ram e z = not-false _ (zero-all-hold (range_rules map top a n) tt (sym e ∙ z)).1.0
+-- what a range that was judged says
+pub range-ram : (map : List Region) (top a n : ℕ) → 0 ≡ first_broken (range_rules map top a n) → ram map a n ≡ true
+range-ram map top a n e = not-false _ (zero-all-hold (range_rules map top a n) tt (sym e)).1.0
 
 module _ (table : List Leaf) (c : List ℕ) where
-  pub text-open : has_zero (text c) ≡ false → 22 ≡ first_broken (check_rules table c)
-  text-open e = simp e
-
   module _ (zero : has_zero (text c) ≡ true) where
-    pub no-instruction : eqb (length table) 0 ≡ true → 23 ≡ first_broken (check_rules table c)
-    no-instruction e = simp (zero, e)
-
     module _ (some : eqb (length table) 0 ≡ false) where
       pub no_register : 3 < result_register c → 24 ≡ first_broken (check_rules table c)
       no_register h = simp (zero, some, lt-ltb _ _ h)
@@ -181,67 +172,38 @@ module _ (table : List Leaf) (c : List ℕ) where
 
 -- ---- what the parameters say, by the numbers that the code read from them
 
-module _ (job : Job) (map : List Region) (s : State) {code a : ℕ} (at : a ≡ address s.gathered) where
-  module _ {n : ℕ} (long : n ≡ data_length s.gathered - 8) (rules : code ≡ first_broken (range_rules map (limit job.mode) a n)) where
-    write-rules : code ≡ first_broken (range_rules map (limit job.mode) (address s.gathered) (data_length s.gathered - 8))
-    write-rules = rules ∙ ap₂ (λ (b m : ℕ). first_broken (range_rules map (limit job.mode) b m)) at long
+-- what a write of n bytes at a that passes says
+abbrev pub written : Job → State → ℕ → ℕ → Effect
+written job s a n = no_stores (cond (eqb n 0) (finished job.length s) (in_phase (Storing a n) s))
 
-    -- what a write of n bytes at a that passes says
-    abbrev passed : ℕ → ℕ → Effect
-    passed b m = no_stores (cond (eqb m 0) (finished job.length s) (in_phase (Storing b m) s))
+pub write-by : (job : Job) (map : List Region) (s : State) {a n : ℕ} → a ≡ address s.gathered → n ≡ data_length s.gathered - 8
+    → write_read job map s ≡ judged (first_broken (range_rules map (limit job.mode) a n)) s (written job s a n)
+unfolding write_read
+write-by job map s at long =
+    sym (λ i. judged (first_broken (range_rules map (limit job.mode) (at i) (long i))) s (written job s (at i) (long i)))
 
-    pub write-stops : (code ≡ 0 → ⊥) → write_read job map s ≡ no_stores (stopped code s.start s)
-    unfolding write_read
-    write-stops = judged-stops s write-rules (passed (address s.gathered) (data_length s.gathered - 8))
+-- what a fill of n bytes v at a does
+abbrev pub filled : Job → State → ℕ → ℕ → ℕ → Effect
+filled job s a n v =
+    record {
+      state = finished job.length (tallied (with_stored n s.tally) s);
+      stores = stores_from a (replicate n v);
+    }
 
-    write_goes : code ≡ 0 → write_read job map s ≡ passed a n
-    unfolding write_read
-    write_goes e =
-        judged-goes s write-rules (passed (address s.gathered) (data_length s.gathered - 8)) e ∙ ap₂ passed (sym at) (sym long)
+pub fill-by : (job : Job) (map : List Region) (s : State) {a n v : ℕ} → a ≡ address s.gathered → n ≡ fill_count s.gathered
+    → v ≡ pattern s.gathered
+    → fill_read job map s ≡ judged (first_broken (range_rules map (limit job.mode) a n)) s (filled job s a n v)
+unfolding fill_read
+fill-by job map s at long byte =
+    sym (λ i. judged (first_broken (range_rules map (limit job.mode) (at i) (long i))) s (filled job s (at i) (long i) (byte i)))
 
-    pub write-empty : code ≡ 0 → n ≡ 0 → write_read job map s ≡ no_stores (finished job.length s)
-    write-empty e z = write_goes e ∙ ap no_stores (cond-eq n 0 (finished job.length s) (in_phase (Storing a n) s) z)
+abbrev pub entered : Job → State → ℕ → Effect
+entered job s a = no_stores (finished job.length (tallied (with_entry a s.tally) s))
 
-    pub write-stores : code ≡ 0 → (n ≡ 0 → ⊥) → write_read job map s ≡ no_stores (in_phase (Storing a n) s)
-    write-stores e z = write_goes e ∙ ap no_stores (cond-ne n 0 (finished job.length s) (in_phase (Storing a n) s) z)
-
-  module _ {n : ℕ} (long : n ≡ fill_count s.gathered) (rules : code ≡ first_broken (range_rules map (limit job.mode) a n)) where
-    fill-rules : code ≡ first_broken (range_rules map (limit job.mode) (address s.gathered) (fill_count s.gathered))
-    fill-rules = rules ∙ ap₂ (λ (b m : ℕ). first_broken (range_rules map (limit job.mode) b m)) at long
-
-    -- what a fill of m bytes v at b does
-    abbrev filled : ℕ → ℕ → ℕ → Effect
-    filled b m v =
-        record {
-          state = finished job.length (tallied (with_stored m s.tally) s);
-          stores = stores_from b (replicate m v);
-        }
-
-    pub fill_stops : (code ≡ 0 → ⊥) → fill_read job map s ≡ no_stores (stopped code s.start s)
-    unfolding fill_read
-    fill_stops = judged-stops s fill-rules (filled (address s.gathered) (fill_count s.gathered) (pattern s.gathered))
-
-    pub fill-stores : {v : ℕ} → v ≡ pattern s.gathered → code ≡ 0 → fill_read job map s ≡ filled a n v
-    unfolding fill_read
-    fill-stores p e =
-        judged-goes s fill-rules (filled (address s.gathered) (fill_count s.gathered) (pattern s.gathered)) e
-        ∙ sym (λ i. filled (at i) (long i) (p i))
-
-module _ (job : Job) (s : State) {code a : ℕ} (at : a ≡ address s.gathered)
-    (rules : code ≡ first_broken (entry_rules (limit job.mode) a)) where
-  entry-rules : code ≡ first_broken (entry_rules (limit job.mode) (address s.gathered))
-  entry-rules = rules ∙ ap (λ (b : ℕ). first_broken (entry_rules (limit job.mode) b)) at
-
-  abbrev entered : ℕ → Effect
-  entered b = no_stores (finished job.length (tallied (with_entry b s.tally) s))
-
-  pub entry-stops : (code ≡ 0 → ⊥) → entry_read job s ≡ no_stores (stopped code s.start s)
-  unfolding entry_read
-  entry-stops = judged-stops s entry-rules (entered (address s.gathered))
-
-  pub entry-counts : code ≡ 0 → entry_read job s ≡ entered a
-  unfolding entry_read
-  entry-counts e = judged-goes s entry-rules (entered (address s.gathered)) e ∙ ap entered (sym at)
+pub entry-by : (job : Job) (s : State) {a : ℕ} → a ≡ address s.gathered
+    → entry_read job s ≡ judged (first_broken (entry_rules (limit job.mode) a)) s (entered job s a)
+unfolding entry_read
+entry-by job s at = sym (λ i. judged (first_broken (entry_rules (limit job.mode) (at i))) s (entered job s (at i)))
 
 -- ---- what is done
 
@@ -258,13 +220,13 @@ pub done-same : {e u : Effect} {s : State} {map : List Region} {before after : L
 done-same {s = s} {map} {before} {after} q d = subst (λ (v : Effect). Done v s map before after) (sym q) d
 
 -- a range that is stored to: all of it in memory, byte after byte
-module _ (map memory : List ℕ) (lent : Lent map (length memory)) (a : ℕ) where
+module _ (map memory : List ℕ) (order : ordered 0 (regions map) ≡ true) (lent : Lent map (length memory)) (a : ℕ) where
   pub range-fits : (n : ℕ) → ram (regions map) a n ≡ true → offset (regions map) a + n ≤ length memory
   range-fits n r =
-      omega (arith, lent.sum, offset-fits 0 (regions map) (ordered-means 0 (regions map) lent.order) a n r)
+      omega (arith, lent.sum, offset-fits 0 (regions map) (ordered-means 0 (regions map) order) a n r)
 
   pub block-stored : (bs : List ℕ) {at : ℕ} {after : List ℕ} → ram (regions map) a (length bs) ≡ true → at ≡ offset (regions map) a
       → after ≡ put memory at bs → after ≡ applied (regions map) memory (stores_from a bs)
   block-stored bs r e p =
       p ∙ ap (λ (i : ℕ). put memory i bs) e
-      ∙ sym (applied-from (regions map) memory a bs lent.order (omega (arith, lent.sum)) r)
+      ∙ sym (applied-from (regions map) memory a bs order (omega (arith, lent.sum)) r)

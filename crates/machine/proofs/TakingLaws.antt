@@ -11,7 +11,7 @@ use lib.Seq.{take_all, drop-drop}
 use Rattle.answers.specs.Rules.{first_broken}
 use Rattle.answers.specs.declared.Stop.{Stop}
 use Rattle.answers.proofs.ChoiceLaws.{cond_cases}
-use Rattle.board.specs.Map.{Region, regions, uncovered, ram, map_rules}
+use Rattle.board.specs.Map.{Region, regions, ordered, uncovered, ram, map_rules}
 use Rattle.board.specs.Reach.{limit}
 use Rattle.board.proofs.MapLaws.{map-means, ordered-holds}
 use Rattle.machine.specs.Code.{state_of}
@@ -58,10 +58,11 @@ ready-begun {job} {map} {table} short taken b =
     record { short = short; taken = taken; reached = rw b (begun-reached (setting_of job map table)) }
 
 module _ {job : Job} {map table : List ℕ} {memory : ℕ} {s : State} (r : Ready job map table memory s) where
+  pub ready-order : ordered 0 (regions map) ≡ true
+  ready-order = ordered-holds 0 (regions map) (map-means map memory r.taken).order
+
   pub ready-lent : Lent map memory
-  ready-lent =
-      let t = map-means map memory r.taken in
-      record { order = ordered-holds 0 (regions map) t.order; sum = sym t.lent; small = omega (arith, t.lent, t.small) }
+  ready-lent = let t = map-means map memory r.taken in record { sum = sym t.lent; small = omega (arith, t.lent, t.small) }
 
   ready-stands : Stands (setting_of job map table) s
   ready-stands = reached-stands (setting_of job map table) s r.reached
@@ -70,7 +71,7 @@ module _ {job : Job} {map table : List ℕ} {memory : ℕ} {s : State} (r : Read
   ready-room : (c : Control) → c.next ≤ job.length → c.tally ≡ s.tally → Roomy c job.length
   ready-room c inside e =
       let l = ready-lent in
-      let few = reached-stored (setting_of job map table) l.order (omega (arith, l.sum, l.small)) s r.reached in
+      let few = reached-stored (setting_of job map table) ready-order (omega (arith, l.sum, l.small)) s r.reached in
       let st = ready-stands in
       record {
         inside = inside;

@@ -1,5 +1,5 @@
 -- The commands: their IDs, their fields, and the rules that each is judged by. (F4, N17 and the like: docs/FORMAT.md.)
-use Rattle.std.specs.Prelude.{Bool, true, false, not, cond, List, [], ◌∷◌, ℕ, eqb, leb, ltb, length}
+use Rattle.std.specs.Prelude.{Bool, true, false, not, cond, Option, Some, None, List, [], ◌∷◌, ℕ, eqb, leb, ltb, length}
 use Rattle.std.specs.Int.Bits.{bit_and}
 use Rattle.octets.specs.Numbers.{little}
 use Rattle.octets.specs.Parts.{part}
@@ -7,8 +7,6 @@ use Rattle.answers.specs.Rules.{Rule, rule}
 use Rattle.board.specs.Cpuid.{Leaf, lookup}
 use Rattle.board.specs.Map.{Region, ram}
 use Rattle.board.specs.Reach.{reachable}
-use Rattle.board.specs.declared.Found.{Found}
-use Rattle.board.specs.declared.Found.TheVariants.{Word, Nothing}
 use Rattle.machine.specs.declared.Command.{Command}
 use Rattle.machine.specs.declared.Command.TheVariants.{Write, Fill, Entry, Check}
 use Rattle.machine.specs.declared.Named.{Named}
@@ -93,17 +91,17 @@ unfoldable pub has_zero : List ℕ → Bool
 has_zero [] = false
 has_zero (b ∷ bs) = cond (eqb b 0) true (has_zero bs)
 
-abbrev pub missing : Found → Bool
-missing (Word w) = false
-missing Nothing = true
+abbrev pub missing : Option ℕ → Bool
+missing (Some w) = false
+missing None = true
 
 -- F15: a check passes if (register AND mask) = value
-abbrev pub passes : Found → ℕ → ℕ → Bool
-passes (Word w) m v = eqb (bit_and w m) v
-passes Nothing m v = false
+abbrev pub passes : Option ℕ → ℕ → ℕ → Bool
+passes (Some w) m v = eqb (bit_and w m) v
+passes None m v = false
 
 -- N25, N26: no such record; check failed
-abbrev pub found_rules : Found → ℕ → ℕ → List Rule
+abbrev pub found_rules : Option ℕ → ℕ → ℕ → List Rule
 found_rules found m v = rule 25 (missing found) ∷ rule 26 (not (passes found m v)) ∷ []
 
 -- O9: 22 text without zero; 23 CPUID not available; 24 result register over 3; then what a lookup finds

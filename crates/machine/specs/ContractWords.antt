@@ -1,7 +1,12 @@
 -- What contracts say besides the machine itself.
-use Rattle.std.specs.Prelude.{Bool, true, false, cond, ◌≡◌, List, ◌++◌, ℕ, ◌+◌, ◌-◌, ◌≤◌, ◌<◌, ◌^◌, ⊤, min, eqb, ltb, length, take}
+use Rattle.std.specs.Prelude.{Result, Ok, Err, Bool, true, false, cond, ◌≡◌, List, ◌++◌, ℕ, ◌+◌, ◌-◌, ◌≤◌, ◌<◌, ◌^◌, ⊤, min, eqb, ltb, length, take}
+use Rattle.answers.specs.Answers.{refused}
+use Rattle.answers.specs.Codes.{number}
 use Rattle.answers.specs.Rules.{first_broken}
-use Rattle.board.specs.Map.{Region, regions, ordered, total, map_rules}
+use Rattle.answers.specs.declared.Answer.{Answer}
+use Rattle.answers.specs.declared.codes.Refusal.{Refusal}
+use Rattle.board.specs.Map.{Region, regions, total, map_rules}
+use Rattle.machine.specs.Bare.{Bare, bare_setting, bare_answer_made, bare_stores_made}
 use Rattle.machine.specs.Code.{state_of}
 use Rattle.machine.specs.Commands.{data_length, judged_bytes, wrong_length}
 use Rattle.machine.specs.Machine.{
@@ -11,6 +16,7 @@ use Rattle.machine.specs.Machine.{
   setting_of,
   no_stores,
   in_phase,
+  stopped,
   magic_read,
   header_read,
   parameters_read,
@@ -34,7 +40,7 @@ effects e s xs = record { state = run e s xs; stores = trace e s xs }
 
 -- what a run is held against
 abbrev pub held : code.Setting → Setting
-held on = setting_of on.job on.map.now on.table.now
+held on = setting_of on.job on.map.bytes.now on.table.now
 
 -- the bytes are used: kept behind those gathered
 abbrev pub kept_all : List ℕ → State → State
@@ -87,13 +93,18 @@ is_over (Stopped stop) kept = true
 
 -- ---- what steps do
 
+-- the state after a step from c: a command that is refused stops the run at its first byte
+abbrev pub after : Control → Result Control Refusal → List ℕ → State
+after c (Ok r) h = state_of r h
+after c (Err why) h = stopped (number why) c.start (state_of c h)
+
 -- the step from c to r is f, whatever bytes are gathered
 abbrev pub Steps : Control → Control → (State → State) → Type 0
 Steps c r f = (h : List ℕ) → state_of r h ≡ f (state_of c h)
 
 -- the same of an effect that is without stores
-abbrev pub Says : Control → Control → (State → Effect) → Type 0
-Says c r f = (h : List ℕ) → f (state_of c h) ≡ no_stores (state_of r h)
+abbrev pub Says : Control → Result Control Refusal → (State → Effect) → Type 0
+Says c r f = (h : List ℕ) → f (state_of c h) ≡ no_stores (after c r h)
 
 -- the effect e is done: s is the state after it, and the memory `before` has become `after`
 pub record Done (e : Effect) (s : State) (map : List Region) (before after : List ℕ) : Type 0 where
@@ -120,9 +131,8 @@ pub record Ready (job : Job) (map table : List ℕ) (memory : ℕ) (s : State) :
   pub taken : first_broken (map_rules map memory) ≡ 0
   pub reached : Reached (setting_of job map table) s
 
--- a map in order, and memory of as many bytes as its regions have
+-- memory of as many bytes as the map's regions have
 pub record Lent (map : List ℕ) (memory : ℕ) : Type 0 where
-  pub order : ordered 0 (regions map) ≡ true
   pub sum : total (regions map) ≡ memory
   pub small : memory ≤ 2 ^ 32
 
@@ -149,3 +159,14 @@ pub record Stores (c : Control) (address left file_length : ℕ) : Type 0 where
   pub ahead : c.next + left ≤ file_length
   pub below : address + left < 2 ^ 64
   pub counts : Roomy c file_length
+
+-- ---- what a bare run gives
+
+-- the answer, or that of a refusal that nothing went before
+abbrev pub answer_or_refused : Result Answer Refusal → Answer
+answer_or_refused (Ok a) = a
+answer_or_refused (Err why) = refused (number why)
+
+pub record BareGives (b : Bare) (before : List ℕ) (r : Result Answer Refusal) (after : List ℕ) : Type 0 where
+  pub answer : answer_or_refused r ≡ bare_answer_made b (length before)
+  pub memory : after ≡ applied (bare_setting b).map before (bare_stores_made b (length before))

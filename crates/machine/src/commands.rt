@@ -1,15 +1,17 @@
 // What a command is judged by: its ID, its data length, its range, its check.
-ghost use Rattle.std.specs.Prelude.{◌≡◌, true, length};
+ghost use Rattle.std.specs.Prelude.{◌≡◌, length};
+ghost use Rattle.answers.specs.Codes.{code_of};
 ghost use Rattle.answers.specs.Rules.{first_broken};
 ghost use Rattle.board.specs.Cpuid.{leaves, lookup};
-ghost use Rattle.board.specs.Map.{ordered, regions};
+ghost use Rattle.board.specs.Map.{regions};
 ghost use Rattle.board.specs.Reach.{limit, reachable};
 ghost use Rattle.machine.specs.Commands as spec;
 
 use crate::{Command, Named};
-use answers::codes;
-use board::{Found, cpuid, map, reach};
-use octets::numbers;
+use answers::codes::Refusal;
+use board::map::Map;
+use board::{cpuid, reach};
+use octets::numbers::Number;
 
 // A command's header has as many bytes; of its data each command is judged by as many, a write by its address alone.
 pub const HEADER: u64 = 16;
@@ -71,47 +73,46 @@ fn wrong_length(k: Command, n: u64) -> bool
 }
 
 // What data of n bytes are judged by, with `left` bytes of the file behind the header.
-pub fn data_code(n: u64, left: u64) -> u64
-    ensures { result ≡ first_broken (spec.data_rules n left) }
+pub fn judge_data(n: u64, left: u64) -> Result<(), Refusal>
+    ensures { code_of result ≡ first_broken (spec.data_rules n left) }
 {
     if left < n {
-        return codes::COMMAND_CUT;
+        return Err(Refusal::CommandCut);
     }
-    codes::DONE
+    Ok(())
 }
 
 // What a command's data length is judged by, before its data.
-pub fn length_code(k: Command, n: u64, left: u64) -> u64
-    ensures { result ≡ first_broken (spec.length_rules k n left) }
+pub fn judge_length(k: Command, n: u64, left: u64) -> Result<(), Refusal>
+    ensures { code_of result ≡ first_broken (spec.length_rules k n left) }
 {
     if wrong_length(k, n) {
-        return codes::COMMAND_LENGTH;
+        return Err(Refusal::CommandLength);
     }
-    data_code(n, left)
+    judge_data(n, left)
 }
 
 // What a range that is to be stored to is judged by.
-pub fn range_code(map: &[u8], mode: u64, a: u64, n: u64) -> u64
-    requires { ordered 0 (regions map.now) ≡ true }
-    ensures { result ≡ first_broken (spec.range_rules (regions map.now) (limit mode) a n) }
+pub fn judge_range(map: Map, mode: u64, a: u64, n: u64) -> Result<(), Refusal>
+    ensures { code_of result ≡ first_broken (spec.range_rules (regions map.entry.bytes.now) (limit mode) a n) }
 {
     if !reaches(mode, a, n) {
-        return codes::NOT_REACHABLE;
+        return Err(Refusal::NotReachable);
     }
-    if !map::is_ram(map, a, n) {
-        return codes::NOT_RAM;
+    if !map.is_ram(a, n) {
+        return Err(Refusal::NotRam);
     }
-    codes::DONE
+    Ok(())
 }
 
 // What an entry address is judged by: it need not be RAM.
-pub fn entry_code(mode: u64, a: u64) -> u64
-    ensures { result ≡ first_broken (spec.entry_rules (limit mode) a) }
+pub fn judge_entry(mode: u64, a: u64) -> Result<(), Refusal>
+    ensures { code_of result ≡ first_broken (spec.entry_rules (limit mode) a) }
 {
     if !reaches(mode, a, 1) {
-        return codes::NOT_REACHABLE;
+        return Err(Refusal::NotReachable);
     }
-    codes::DONE
+    Ok(())
 }
 
 // Whether a mode reaches a range.
@@ -122,51 +123,46 @@ fn reaches(mode: u64, a: u64, n: u64) -> bool
 }
 
 // What a check, whose bytes from its first one on are `c`, is judged by.
-pub fn check_code(c: &[u8], table: &[u8]) -> u64
+pub fn judge_check(c: &[u8], table: &[u8]) -> Result<(), Refusal>
     requires { length c.now ≡ 104 }
-    ensures { result ≡ first_broken (spec.check_rules (leaves table.now) c.now) }
+    ensures { code_of result ≡ first_broken (spec.check_rules (leaves table.now) c.now) }
 {
     if !has_zero(&c[TEXT..crate::GATHERED]) {
-        return codes::TEXT;
+        return Err(Refusal::Text);
     }
     if !cpuid::is_available(table) {
-        return codes::CPUID_MISSING;
+        return Err(Refusal::CpuidMissing);
     }
     if 3 < c[REGISTER] {
-        return codes::REGISTER;
+        return Err(Refusal::Register);
     }
     let found = looked_up(c, table);
-    found_code(found, numbers::little4(c, 28), numbers::little4(c, 24))
+    judge_found(found, u32::little(c, 28), u32::little(c, 24))
 }
 
-// What the result register of a check holds.
-fn looked_up(c: &[u8], table: &[u8]) -> Found
+// What the result register of a check holds, if there is such a record.
+fn looked_up(c: &[u8], table: &[u8]) -> Option<u32>
     requires { length c.now ≡ 104 }
     ensures { result ≡ lookup (leaves table.now) (spec.eax c.now) (spec.ecx c.now)
         (spec.result_register c.now) }
 {
-    let eax = numbers::little4(c, 20);
-    let ecx = numbers::little4(c, 16);
+    let eax = u32::little(c, 20);
+    let ecx = u32::little(c, 16);
     cpuid::lookup(table, eax, ecx, c[REGISTER] as u64)
 }
 
 // What a lookup's result is judged by; the value is not masked.
-fn found_code(found: Found, mask: u32, value: u32) -> u64
-    ensures { result ≡ first_broken (spec.found_rules found mask value) }
+fn judge_found(found: Option<u32>, mask: u32, value: u32) -> Result<(), Refusal>
+    ensures { code_of result ≡ first_broken (spec.found_rules found mask value) }
 {
-    match found {
-        Found::Word(w) => {
-            if w & mask == value {
-                codes::DONE
-            } else {
-                codes::CHECK_FAILED
-            }
-        }
-        Found::Nothing => codes::NO_RECORD,
+    let word = found.ok_or(Refusal::NoRecord)?;
+    if word & mask != value {
+        return Err(Refusal::CheckFailed);
     }
+    Ok(())
 }
 
-// Whether a zero byte is somewhere in the text.
+// Whether a zero byte is somewhere in the text. FORMAT's rules ask for this loop, which gives the answer by `break`.
 fn has_zero(text: &[u8]) -> bool
     ensures { result ≡ spec.has_zero text.now }
 {

@@ -14,7 +14,9 @@ ghost use Rattle.machine.specs.ContractWords.{Ready};
 ghost use Rattle.machine.specs.Machine as spec;
 ghost use Rattle.machine.specs.Memory.{applied};
 
-use answers::{Answer, Stop, codes};
+use answers::codes::{self, Refusal};
+use answers::{Answer, Stop};
+use board::map::Map;
 
 // What a run is given besides the unit's map and table: the file's length, and the mode.
 #[derive(Clone, Copy)]
@@ -25,10 +27,10 @@ pub struct Job {
 
 // What a run is held against: its job, and the unit's map and table.
 #[derive(Clone, Copy)]
-pub struct Setting<'a> {
+pub struct Setting<'m, 't> {
     pub job: Job,
-    pub map: &'a [u8],
-    pub table: &'a [u8],
+    pub map: Map<'m>,
+    pub table: &'t [u8],
 }
 
 // The commands that act on the unit.
@@ -121,7 +123,7 @@ pub fn begin(length: u64) -> Machine
     ensures { machine_of result ≡ spec.begun length }
 {
     let phase = if length < MAGIC_LENGTH {
-        Phase::Stopped(answers::stop_at(codes::FILE_MAGIC, 0))
+        Phase::Stopped(Stop::refused(Refusal::FileMagic, 0))
     } else {
         Phase::Magic
     };
@@ -157,7 +159,11 @@ pub fn take_piece(
         (spec.trace (spec.setting_of job map.now table.now) (machine_of m) piece.now)) }
 {
     let mut gathered = m.gathered;
-    let on = Setting { job, map, table };
+    let on = Setting {
+        job,
+        map: Map { bytes: map },
+        table,
+    };
     let control = taking::take_all(m.control, &mut gathered, piece, on, memory);
     Machine { control, gathered }
 }

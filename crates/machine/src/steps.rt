@@ -1,16 +1,18 @@
 // The steps of a run, by what they do to its control.
-ghost use Rattle.std.specs.Prelude.{true, false, ◌≡◌, ◌+◌, ◌≤◌, ◌<◌, ◌^◌, length};
+ghost use Rattle.std.specs.Prelude.{false, ◌≡◌, ◌+◌, ◌≤◌, ◌<◌, ◌^◌, length};
+ghost use Rattle.answers.specs.Codes.{number};
 ghost use Rattle.board.specs.Cpuid.{leaves};
-ghost use Rattle.board.specs.Map.{ordered, regions};
+ghost use Rattle.board.specs.Map.{regions};
 ghost use Rattle.machine.specs.Code.{state_of};
 ghost use Rattle.machine.specs.Commands.{data_length, judged_bytes, wrong_length};
 ghost use Rattle.machine.specs.ContractWords as contract;
-ghost use Rattle.machine.specs.ContractWords.{Steps, Says, Roomy, Lent, Gathered, Passed, Done, says, held, data_used};
+ghost use Rattle.machine.specs.ContractWords.{Steps, Says, Roomy, Lent, Gathered, Passed, Done, after, says, held, data_used};
 ghost use Rattle.machine.specs.Machine as spec;
 
 use crate::{Awaited, Command, Control, Job, Named, Phase, Setting, Tally, commands, memory};
-use answers::codes;
-use octets::numbers;
+use answers::Stop;
+use answers::codes::Refusal;
+use octets::numbers::Number;
 
 // Bytes stored counts every store, repeats included.
 pub fn with_stored(t: Tally, n: u64) -> Tally
@@ -34,18 +36,18 @@ fn with_entry(t: Tally, address: u64) -> Tally
 }
 
 // The run ends.
-fn stopped(c: Control, code: u64, place: u64) -> Control
-    ensures { Steps c result (spec.stopped code place) }
+fn stopped(c: Control, stop: Stop) -> Control
+    ensures { Steps c result (spec.in_phase (Phase.Stopped stop)) }
 {
-    let phase = Phase::Stopped(answers::stop_at(code, place));
+    let phase = Phase::Stopped(stop);
     Control { phase, ..c }
 }
 
 // A command that breaks a rule stops the run at its first byte.
-fn refused(c: Control, code: u64) -> Control
-    ensures { Steps c result (spec.stopped code c.start) }
+fn refused(c: Control, why: Refusal) -> Control
+    ensures { Steps c result (spec.stopped (number why) c.start) }
 {
-    stopped(c, code, c.start)
+    stopped(c, Stop::refused(why, c.start))
 }
 
 // The bytes of a command are awaited.
@@ -68,12 +70,12 @@ fn command_begins(c: Control, length: u64) -> Control
     let left = length - c.next;
     if left == 0 {
         if c.tally.entry.is_some() {
-            return stopped(c, codes::DONE, 0);
+            return stopped(c, Stop::done());
         }
-        return stopped(c, codes::NO_ENTRY, length);
+        return stopped(c, Stop::refused(Refusal::NoEntry, length));
     }
     if left < commands::HEADER {
-        return stopped(c, codes::COMMAND_CUT, c.next);
+        return stopped(c, Stop::refused(Refusal::CommandCut, c.next));
     }
     awaiting(c)
 }
@@ -117,12 +119,31 @@ pub fn awaited(what: Awaited) -> u64
 // All that are awaited are there.
 pub fn read(c: Control, what: Awaited, gathered: &[u8], on: Setting, memory: &mut [u8]) -> Control
     requires { Gathered (contract.awaited what) c gathered.now × Passed what (state_of c gathered.now)
-        × Roomy c on.job.length × Lent on.map.now (length memory.old) }
+        × Roomy c on.job.length × Lent on.map.bytes.now (length memory.old) }
     ensures { Done (says what (held on.entry) (state_of c gathered.now)) (state_of result gathered.now)
-        (regions on.entry.map.now) memory.old memory.new }
+        (regions on.entry.map.bytes.now) memory.old memory.new }
+{
+    match judged(c, what, gathered, on, memory) {
+        Ok(control) => control,
+        Err(why) => refused(c, why),
+    }
+}
+
+// What they say, unless it is refused.
+fn judged(
+    c: Control,
+    what: Awaited,
+    gathered: &[u8],
+    on: Setting,
+    memory: &mut [u8],
+) -> Result<Control, Refusal>
+    requires { Gathered (contract.awaited what) c gathered.now × Passed what (state_of c gathered.now)
+        × Roomy c on.job.length × Lent on.map.bytes.now (length memory.old) }
+    ensures { Done (says what (held on.entry) (state_of c gathered.now)) (after c result gathered.now)
+        (regions on.entry.map.bytes.now) memory.old memory.new }
 {
     match what {
-        Awaited::Magic => magic_read(c, gathered, on.job.length),
+        Awaited::Magic => Ok(magic_read(c, gathered, on.job.length)),
         Awaited::Header => header_read(c, gathered, on.job.length),
         Awaited::Parameters(k) => parameters_read(c, k, gathered, on, memory),
     }
@@ -133,53 +154,47 @@ fn magic_read(c: Control, gathered: &[u8], length: u64) -> Control
     requires { Gathered 8 c gathered.now × Roomy c length }
     ensures { spec.magic_read length (state_of c gathered.now) ≡ spec.no_stores (state_of result gathered.now) }
 {
-    if numbers::little8(gathered, 0) == crate::MAGIC {
+    if u64::little(gathered, 0) == crate::MAGIC {
         return command_begins(c, length);
     }
-    stopped(c, codes::FILE_MAGIC, 0)
+    stopped(c, Stop::refused(Refusal::FileMagic, 0))
 }
 
 // A header is judged when its 16 bytes are there.
-fn header_read(c: Control, gathered: &[u8], length: u64) -> Control
+fn header_read(c: Control, gathered: &[u8], length: u64) -> Result<Control, Refusal>
     requires { Gathered 16 c gathered.now × Roomy c length }
-    ensures { spec.header_read length (state_of c gathered.now) ≡ spec.no_stores (state_of result gathered.now) }
+    ensures { spec.header_read length (state_of c gathered.now) ≡ spec.no_stores (after c result gathered.now) }
 {
-    let n = numbers::little8(gathered, commands::DATA_LENGTH);
-    let name = commands::named(numbers::little2(gathered, 0));
-    match name {
+    let n = u64::little(gathered, commands::DATA_LENGTH);
+    let id = u16::little(gathered, 0);
+    match commands::named(id) {
         Named::Known(k) => known_read(c, k, n, length),
         Named::Skipped => skipped_read(c, n, length),
-        Named::Unknown => refused(c, codes::COMMAND_ID),
+        Named::Unknown => Err(Refusal::CommandId),
     }
 }
 
 // A command is judged by its length, and waits for what else it is judged by.
-fn known_read(c: Control, k: Command, n: u64, length: u64) -> Control
+fn known_read(c: Control, k: Command, n: u64, length: u64) -> Result<Control, Refusal>
     requires { Roomy c length }
     ensures { Says c result (spec.header_says (Named.Known k) length n) }
 {
-    let code = commands::length_code(k, n, length - c.next);
-    if code != codes::DONE {
-        return refused(c, code);
-    }
+    commands::judge_length(k, n, length - c.next)?;
     let phase = Phase::Parameters(k);
-    Control { phase, ..c }
+    Ok(Control { phase, ..c })
 }
 
 // A skipped command has its data skipped.
-fn skipped_read(c: Control, n: u64, length: u64) -> Control
+fn skipped_read(c: Control, n: u64, length: u64) -> Result<Control, Refusal>
     requires { Roomy c length }
     ensures { Says c result (spec.header_says Named.Skipped length n) }
 {
-    let code = commands::data_code(n, length - c.next);
-    if code != codes::DONE {
-        return refused(c, code);
-    }
+    commands::judge_data(n, length - c.next)?;
     if n == 0 {
-        return finished(c, length);
+        return Ok(finished(c, length));
     }
     let phase = Phase::Skipping { left: n };
-    Control { phase, ..c }
+    Ok(Control { phase, ..c })
 }
 
 // What a command is judged by is there.
@@ -189,11 +204,11 @@ fn parameters_read(
     gathered: &[u8],
     on: Setting,
     memory: &mut [u8],
-) -> Control
+) -> Result<Control, Refusal>
     requires { Gathered (16 + judged_bytes k) c gathered.now × (wrong_length k (data_length (state_of c gathered.now).gathered) ≡ false)
-        × Roomy c on.job.length × Lent on.map.now (length memory.old) }
-    ensures { Done (spec.parameters_read k (held on.entry) (state_of c gathered.now)) (state_of result gathered.now)
-        (regions on.entry.map.now) memory.old memory.new }
+        × Roomy c on.job.length × Lent on.map.bytes.now (length memory.old) }
+    ensures { Done (spec.parameters_read k (held on.entry) (state_of c gathered.now)) (after c result gathered.now)
+        (regions on.entry.map.bytes.now) memory.old memory.new }
 {
     match k {
         Command::Write => write_read(c, gathered, on),
@@ -204,63 +219,55 @@ fn parameters_read(
 }
 
 // A write's address is judged over its whole range.
-fn write_read(c: Control, gathered: &[u8], on: Setting) -> Control
-    requires { Gathered 24 c gathered.now × (8 ≤ data_length (state_of c gathered.now).gathered) × Roomy c on.job.length
-        × (ordered 0 (regions on.map.now) ≡ true) }
-    ensures { spec.write_read on.entry.job (regions on.entry.map.now) (state_of c gathered.now)
-        ≡ spec.no_stores (state_of result gathered.now) }
+fn write_read(c: Control, gathered: &[u8], on: Setting) -> Result<Control, Refusal>
+    requires { Gathered 24 c gathered.now × (8 ≤ data_length (state_of c gathered.now).gathered) × Roomy c on.job.length }
+    ensures { spec.write_read on.entry.job (regions on.entry.map.bytes.now) (state_of c gathered.now)
+        ≡ spec.no_stores (after c result gathered.now) }
 {
-    let left = numbers::little8(gathered, commands::DATA_LENGTH) - commands::WRITE;
-    let address = numbers::little8(gathered, commands::ADDRESS);
-    let code = commands::range_code(on.map, on.job.mode, address, left);
-    if code != codes::DONE {
-        return refused(c, code);
-    }
+    let left = u64::little(gathered, commands::DATA_LENGTH) - commands::WRITE;
+    let address = u64::little(gathered, commands::ADDRESS);
+    commands::judge_range(on.map, on.job.mode, address, left)?;
     if left == 0 {
-        return finished(c, on.job.length);
+        return Ok(finished(c, on.job.length));
     }
     let phase = Phase::Storing { address, left };
-    Control { phase, ..c }
+    Ok(Control { phase, ..c })
 }
 
 // A fill is stored in one go.
-fn fill_read(c: Control, gathered: &[u8], on: Setting, memory: &mut [u8]) -> Control
-    requires { Gathered 40 c gathered.now × Roomy c on.job.length × Lent on.map.now (length memory.old) }
-    ensures { Done (spec.fill_read on.entry.job (regions on.entry.map.now) (state_of c gathered.now))
-        (state_of result gathered.now) (regions on.entry.map.now) memory.old memory.new }
+fn fill_read(
+    c: Control,
+    gathered: &[u8],
+    on: Setting,
+    memory: &mut [u8],
+) -> Result<Control, Refusal>
+    requires { Gathered 40 c gathered.now × Roomy c on.job.length × Lent on.map.bytes.now (length memory.old) }
+    ensures { Done (spec.fill_read on.entry.job (regions on.entry.map.bytes.now) (state_of c gathered.now))
+        (after c result gathered.now) (regions on.entry.map.bytes.now) memory.old memory.new }
 {
-    let address = numbers::little8(gathered, commands::ADDRESS);
-    let n = numbers::little8(gathered, 24);
-    let code = commands::range_code(on.map, on.job.mode, address, n);
-    if code != codes::DONE {
-        return refused(c, code);
-    }
+    let address = u64::little(gathered, commands::ADDRESS);
+    let n = u64::little(gathered, 24);
+    commands::judge_range(on.map, on.job.mode, address, n)?;
     memory::fill(address, n, gathered[32], on.map, memory);
     let tally = with_stored(c.tally, n);
-    finished(Control { tally, ..c }, on.job.length)
+    Ok(finished(Control { tally, ..c }, on.job.length))
 }
 
-fn entry_read(c: Control, gathered: &[u8], job: Job) -> Control
+fn entry_read(c: Control, gathered: &[u8], job: Job) -> Result<Control, Refusal>
     requires { Gathered 24 c gathered.now × Roomy c job.length }
-    ensures { spec.entry_read job (state_of c gathered.now) ≡ spec.no_stores (state_of result gathered.now) }
+    ensures { spec.entry_read job (state_of c gathered.now) ≡ spec.no_stores (after c result gathered.now) }
 {
-    let address = numbers::little8(gathered, commands::ADDRESS);
-    let code = commands::entry_code(job.mode, address);
-    if code != codes::DONE {
-        return refused(c, code);
-    }
+    let address = u64::little(gathered, commands::ADDRESS);
+    commands::judge_entry(job.mode, address)?;
     let tally = with_entry(c.tally, address);
-    finished(Control { tally, ..c }, job.length)
+    Ok(finished(Control { tally, ..c }, job.length))
 }
 
-fn check_read(c: Control, gathered: &[u8], on: Setting) -> Control
+fn check_read(c: Control, gathered: &[u8], on: Setting) -> Result<Control, Refusal>
     requires { Gathered 104 c gathered.now × Roomy c on.job.length }
     ensures { spec.check_read on.entry.job.length (leaves on.entry.table.now) (state_of c gathered.now)
-        ≡ spec.no_stores (state_of result gathered.now) }
+        ≡ spec.no_stores (after c result gathered.now) }
 {
-    let code = commands::check_code(gathered, on.table);
-    if code != codes::DONE {
-        return refused(c, code);
-    }
-    finished(c, on.job.length)
+    commands::judge_check(gathered, on.table)?;
+    Ok(finished(c, on.job.length))
 }

@@ -22,9 +22,9 @@ pub fn take_all(
     memory: &mut [u8],
 ) -> Control
     requires { (list.length gathered.old ≡ 104)
-        × Ready on.job on.map.now on.table.now (list.length memory.old) (state_of c gathered.old) }
+        × Ready on.job on.map.bytes.now on.table.now (list.length memory.old) (state_of c gathered.old) }
     ensures { Done (effects (held on.entry) (state_of c gathered.old) piece.now) (state_of result gathered.new)
-        (regions on.entry.map.now) memory.old memory.new }
+        (regions on.entry.map.bytes.now) memory.old memory.new }
 {
     let mut s = c;
     let mut at = 0;
@@ -61,9 +61,9 @@ fn is_over(c: Control) -> bool
 // What the next bytes do: as many as the phase can use at once, at least one.
 fn take(c: Control, gathered: &mut [u8], rest: &[u8], on: Setting, memory: &mut [u8]) -> Taken
     requires { (0 < list.length rest.now) × (list.length gathered.old ≡ 104)
-        × Ready on.job on.map.now on.table.now (list.length memory.old) (state_of c gathered.old) }
+        × Ready on.job on.map.bytes.now on.table.now (list.length memory.old) (state_of c gathered.old) }
     ensures { Used (held on.entry) (state_of c gathered.old) rest.now result.used
-        (state_of result.control gathered.new) (regions on.entry.map.now) memory.old memory.new }
+        (state_of result.control gathered.new) (regions on.entry.map.bytes.now) memory.old memory.new }
 {
     match c.phase {
         Phase::Magic => take_gathered(c, Awaited::Magic, gathered, rest, on, memory),
@@ -91,9 +91,9 @@ fn take_gathered(
     memory: &mut [u8],
 ) -> Taken
     requires { (0 < list.length rest.now) × (list.length gathered.old ≡ 104) × (c.phase ≡ phase_of what)
-        × Ready on.job on.map.now on.table.now (list.length memory.old) (state_of c gathered.old) }
+        × Ready on.job on.map.bytes.now on.table.now (list.length memory.old) (state_of c gathered.old) }
     ensures { Used (held on.entry) (state_of c gathered.old) rest.now result.used
-        (state_of result.control gathered.new) (regions on.entry.map.now) memory.old memory.new }
+        (state_of result.control gathered.new) (regions on.entry.map.bytes.now) memory.old memory.new }
 {
     let all = steps::awaited(what);
     let t = gather(c, all, gathered, rest);
@@ -129,9 +129,9 @@ fn take_stored(
     on: Setting,
     memory: &mut [u8],
 ) -> Taken
-    requires { contract.Stores c address left on.job.length × Lent on.map.now (list.length memory.old)
-        × (ram (regions on.map.now) address left ≡ true) }
-    ensures { (memory.new ≡ applied (regions on.entry.map.now) memory.old
+    requires { contract.Stores c address left on.job.length × Lent on.map.bytes.now (list.length memory.old)
+        × (ram (regions on.map.bytes.now) address left ≡ true) }
+    ensures { (memory.new ≡ applied (regions on.entry.map.bytes.now) memory.old
         (spec.stores_from address (take result.used rest.now)))
         × (result.used ≡ min left (list.length rest.now))
         × Steps c result.control (λ s. data_used on.entry.job.length result.used left (Phase.Storing (address + result.used) (left - result.used))

@@ -1,4 +1,4 @@
-use Rattle.std.proofs.Common.{sym, ap, ◌∙◌, arith}
+use Rattle.std.proofs.Common.{sym, ◌∙◌, arith}
 use Rattle.machine.specs.Code.{state_of}
 use Rattle.machine.specs.Machine as spec
 use Rattle.machine.proofs.CodeLaws.{field, header-by}
@@ -8,18 +8,18 @@ pub returns-in-Known : goal.returns-in-Known
 returns-in-Known c =
     let a = c.args in
     header-by a.length (state_of a.c a.gathered.now)
-    (field a.gathered.now a.c.kept 0 2 (omega (arith, c.requires.0.kept)) c.little2.ensures)
-    (field a.gathered.now a.c.kept 8 8 (omega (arith, c.requires.0.kept)) c.little8-n.ensures)
-    (sym c.named-name.ensures ∙ c.in-Known.is)
+    (field a.gathered.now a.c.kept 0 2 (omega (arith, c.requires.0.kept)) c.little-id.ensures)
+    (field a.gathered.now a.c.kept 8 8 (omega (arith, c.requires.0.kept)) c.little-n.ensures)
+    (sym c.named.ensures ∙ c.in-Known.is)
     ∙ c.known_read.ensures _
 
 pub returns-in-Skipped : goal.returns-in-Skipped
 returns-in-Skipped c =
     let a = c.args in
     header-by a.length (state_of a.c a.gathered.now)
-    (field a.gathered.now a.c.kept 0 2 (omega (arith, c.requires.0.kept)) c.little2.ensures)
-    (field a.gathered.now a.c.kept 8 8 (omega (arith, c.requires.0.kept)) c.little8-n.ensures)
-    (sym c.named-name.ensures ∙ c.in-Skipped.is)
+    (field a.gathered.now a.c.kept 0 2 (omega (arith, c.requires.0.kept)) c.little-id.ensures)
+    (field a.gathered.now a.c.kept 8 8 (omega (arith, c.requires.0.kept)) c.little-n.ensures)
+    (sym c.named.ensures ∙ c.in-Skipped.is)
     ∙ c.skipped_read.ensures _
 
 pub returns-in-Unknown : goal.returns-in-Unknown
@@ -27,7 +27,6 @@ unfolding spec.header_says
 returns-in-Unknown c =
     let a = c.args in
     header-by a.length (state_of a.c a.gathered.now)
-    (field a.gathered.now a.c.kept 0 2 (omega (arith, c.requires.0.kept)) c.little2.ensures)
-    (field a.gathered.now a.c.kept 8 8 (omega (arith, c.requires.0.kept)) c.little8-n.ensures)
-    (sym c.named-name.ensures ∙ c.in-Unknown.is)
-    ∙ ap spec.no_stores (sym (c.refused.ensures _))
+    (field a.gathered.now a.c.kept 0 2 (omega (arith, c.requires.0.kept)) c.little-id.ensures)
+    (field a.gathered.now a.c.kept 8 8 (omega (arith, c.requires.0.kept)) c.little-n.ensures)
+    (sym c.named.ensures ∙ c.in-Unknown.is)

@@ -3,7 +3,7 @@ use Rattle.machine.specs.Code.{state_of}
 use Rattle.machine.specs.ContractWords.{says, held}
 use Rattle.machine.specs.declared.Awaited.{Awaited}
 use Rattle.machine.proofs.CodeLaws.{done-no_stores}
-use Rattle.machine.proofs.steps.read.Goals as goal
+use Rattle.machine.proofs.steps.judged.Goals as goal
 
 pub returns-in-Magic : goal.returns-in-Magic
 returns-in-Magic c =
