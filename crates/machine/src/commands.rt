@@ -122,7 +122,8 @@ fn reaches(mode: u64, a: u64, n: u64) -> bool
     reach::is_reachable(reach::reach_limit(mode), a, n)
 }
 
-// What a check, whose bytes from its first one on are `c`, is judged by.
+// What a check, whose bytes from its first one on are `c`, is judged by. Out of line: the loop over a piece is faster so.
+#[inline(never)]
 pub fn judge_check(c: &[u8], table: &[u8]) -> Result<(), Refusal>
     requires { length c.now ≡ 104 }
     ensures { code_of result ≡ first_broken (spec.check_rules (leaves table.now) c.now) }

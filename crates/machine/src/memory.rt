@@ -18,7 +18,8 @@ pub fn store(address: u64, bytes: &[u8], map: Map, memory: &mut [u8])
     parts::copy(memory, at, bytes);
 }
 
-// Stores n bytes v from an address on.
+// Stores n bytes v from an address on. Out of line: the loop over a piece is faster so.
+#[inline(never)]
 pub fn fill(address: u64, n: u64, v: u8, map: Map, memory: &mut [u8])
     requires { Lent map.bytes.now (length memory.old) × (ram (regions map.bytes.now) address n ≡ true) }
     ensures { memory.new

@@ -81,7 +81,9 @@ fn take(c: Control, gathered: &mut [u8], rest: &[u8], on: Setting, memory: &mut 
     }
 }
 
-// Bytes are gathered, and read when all that are awaited are there.
+// Bytes are gathered, and read when all that are awaited are there. Inlined at each call: else a million small commands
+// take more than twice as long.
+#[inline(always)]
 fn take_gathered(
     c: Control,
     what: Awaited,
