@@ -1,14 +1,14 @@
 -- Laws that carry the code's loops and fields to the definitions.
 use mathlib.Core.Path.{◌≡◌, sym, ap, ap₂, subst, ◌∙◌}
 use mathlib.Core.Bool.{true, false, cond}
-use mathlib.Core.List.{List, ◌++◌}
+use mathlib.Core.List.{List}
 use Prim.Native.Nat.{ℕ, ◌+◌, ◌-◌, ◌≤◌, ◌<◌}
 use native.Mathlib.Numerals.{add-one}
 use native.Mathlib.Omega.{arith}
 use borrow.Author.Tests.{eq-eqb, ne_eqb, lt-ltb, le-ltb, not-false}
 use lib.Dec.{eqb, lit≤}
-use lib.ListN.{length, replicate, get_or, take, drop, length-append, length-take, drop_of_length-le}
-use lib.Seq.{drop-cons, take_at, take-take}
+use lib.ListN.{length, replicate, get_or, take, drop, drop_of_length-le}
+use lib.Seq.{drop-cons, take-take}
 use Rattle.std.specs.Prelude.{Result, Err}
 use Rattle.octets.specs.Numbers.{little}
 use Rattle.octets.specs.Parts.{part, put}
@@ -24,7 +24,7 @@ use Rattle.board.specs.Map.{Region, regions, ordered, ram, offset}
 use Rattle.board.specs.Reach.{limit}
 use Rattle.board.proofs.MapLaws.{ordered-means, offset-fits}
 use Rattle.machine.specs.Code.{state_of}
-use Rattle.machine.specs.ContractWords.{kept_all, after, Done, Lent}
+use Rattle.machine.specs.ContractWords.{after, Done, Lent}
 use Rattle.machine.specs.Commands.{
   has_zero,
   named,
@@ -92,19 +92,6 @@ unfolding has_zero
 zero-missing text i h = ap has_zero (drop_of_length-le text h)
 
 -- ---- the bytes gathered
-
--- bytes kept behind the first k
-take_put : (h : List ℕ) (k : ℕ) (xs : List ℕ) → k + length xs ≤ length h → take (k + length xs) (put h k xs) ≡ take k h ++ xs
-take_put h k xs fits =
-    take_at (take k h ++ xs) (drop (k + length xs) h) (k + length xs) (simp (length-append, length-take) (omega arith))
-
-pub kept-behind : (c : Control) (h xs : List ℕ) {g : List ℕ} (n : ℕ) → n ≡ length xs → g ≡ put h c.kept xs → c.kept + n ≤ length h
-    → state_of (record { phase = c.phase; kept = c.kept + n; start = c.start; next = c.next + n; tally = c.tally }) g
-    ≡ kept_all xs (state_of c h)
-kept-behind c h xs {g} n e f fits =
-    let p : take (c.kept + n) g ≡ take c.kept h ++ xs =
-    ap₂ (λ (m : ℕ) (l : List ℕ). take (c.kept + m) l) e f ∙ take_put h c.kept xs (omega arith) in
-    λ i. record { phase = c.phase; gathered = p i; start = c.start; next = c.next + e i; tally = c.tally }
 
 -- a field that lies in the first k bytes
 part-gathered : (h : List ℕ) (k at n : ℕ) → at + n ≤ k → part h at n ≡ part (take k h) at n

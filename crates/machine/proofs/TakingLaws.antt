@@ -4,14 +4,14 @@ use mathlib.Core.Path.{◌≡◌, refl, sym, ap, subst, ◌∙◌}
 use mathlib.Core.List.{List, [], ◌++◌}
 use Prim.Native.Nat.{ℕ, ◌+◌, ◌-◌, ◌^◌, ◌≤◌, ◌<◌, min}
 use native.Mathlib.Omega.{arith}
-use borrow.Author.Tests.{lt-ltb, le-ltb, le-leb, leb-true}
+use borrow.Author.Tests.{lt-ltb, le-ltb}
 use lib.Dec.{eqb, lit≤}
 use lib.ListN.{length, take, drop, length-append, length-take, length-drop, take-append-drop, drop_of_length-le}
 use lib.Seq.{take_all, drop-drop}
 use Rattle.answers.specs.Rules.{first_broken}
 use Rattle.answers.specs.declared.Stop.{Stop}
 use Rattle.answers.proofs.ChoiceLaws.{cond_cases}
-use Rattle.board.specs.Map.{Region, regions, ordered, uncovered, ram, map_rules}
+use Rattle.board.specs.Map.{Region, regions, ordered, ram, map_rules}
 use Rattle.board.specs.Reach.{limit}
 use Rattle.board.proofs.MapLaws.{map-means, ordered-holds}
 use Rattle.machine.specs.Code.{state_of}
@@ -239,9 +239,6 @@ module _ (on : Setting) (w : Awaited) {c : Control} {g : List ℕ} (rest : List 
       }
 
 -- ---- bytes of a command's data
-
-pub ram-fewer : (rs : List Region) (a n m : ℕ) → n ≤ m → ram rs a m ≡ true → ram rs a n ≡ true
-ram-fewer rs a n m h r = le-leb (a + n) (uncovered rs a) (omega (arith, leb-true (a + m) (uncovered rs a) r))
 
 module _ (on : Setting) (c : Control) (g rest : List ℕ) {n left : ℕ} (any : 0 < left) (some : 0 < length rest)
     (many : n ≡ min left (length rest)) where

@@ -125,6 +125,9 @@ pub record Gathers (all : ℕ) (c : Control) (gathered rest : List ℕ) (r : Con
 
 -- ---- what they may ask
 
+-- Lent, Roomy and Gathered stand in the contracts and in no struct: each speaks of a control, of gathered bytes or of memory
+-- that the run changes, so a struct that carried it would be taken apart and made again at each step.
+
 -- a file that is not too long, a map that is taken with this much memory, and a state that begin and earlier pieces give
 pub record Ready (job : Job) (map table : List ℕ) (memory : ℕ) (s : State) : Type 0 where
   pub short : job.length ≤ 2 ^ 30
