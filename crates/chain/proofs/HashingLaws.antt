@@ -1,19 +1,22 @@
 -- Laws of the loops over the hash IDs: one more ID judged, one more digest compared, one more written.
 use mathlib.Core.Path.{◌≡◌, refl, sym, ap, ap₂, ◌∙◌}
-use mathlib.Core.Bool.{Bool, true, false, not, ◌&&◌, and_assoc, not-not, cond}
+use mathlib.Core.Bool.{Bool, true, false, false≢true, not, ◌&&◌, ◌||◌, and_assoc, cond}
 use mathlib.Core.List.{List, [], ◌∷◌, ◌++◌, append_assoc, append-nil}
 use Prim.Native.Nat.{ℕ, suc, ◌+◌, ◌-◌, ◌≤◌, ◌<◌}
 use native.Mathlib.Nat.{add-zero}
 use native.Mathlib.Numerals.{add-one}
 use native.Mathlib.Omega.{arith}
-use borrow.Author.Tests.{eq-eqb, ne_eqb, eqb-true, eqb-false}
+use Rattle.std.specs.Cmp.Lexicographic.{pointwise}
+use Rattle.std.specs.List.{list_any}
+use Rattle.std.proofs.lemmas.Slice.Eq.{bytes_eq-Decides}
+use borrow.Author.Tests.{ne_eqb}
 use lib.Dec.{eqb}
 use lib.ListN.{length, get_or, take, drop, replicate, drop_of_length-le, take-append-drop}
-use lib.ListN.{length-append, length-drop, length-replicate, length-take}
-use lib.Seq.{take-suc, take_all, take_at, drop-cons, drop-drop}
+use lib.ListN.{length-append, length-replicate, length-take}
+use lib.Seq.{take-suc, take_all, take_at, drop-cons}
 use Rattle.octets.specs.Parts.{part, put, same}
 use Rattle.octets.proofs.PartLaws.{length-put, part-behind-put, put-beside}
-use Rattle.octets.proofs.TestLaws.{same-eq, ne_same}
+use Rattle.octets.proofs.TestLaws.{eq-same, ne_same}
 use Rattle.hashes.specs.Code.{in_sixty_four}
 use Rattle.hashes.specs.Digests.{digest, digest_length}
 use Rattle.hashes.proofs.Theorems.{length-digest, digest_length-most}
@@ -52,23 +55,19 @@ module _ (ids : List ℕ) (i : ℕ) (h : i < length ids) where
       ap (λ (t : List ℕ). hashsum t m) taken ∙ hashsum-append (take i ids) (get_or ids i 0 ∷ []) m
       ∙ ap (λ (t : List ℕ). hashsum (take i ids) m ++ t) (append-nil (digest (get_or ids i 0) m))
 
-  judged : {a b : Bool} → eqb (get_or ids i 0) 0 ≡ a → eqb (digest_length (get_or ids i 0)) 0 ≡ b
-      → any_unknown (drop i ids) ≡ cond a (any_unknown (drop (i + 1) ids)) (cond b true (any_unknown (drop (i + 1) ids)))
-  unfolding any_unknown
-  judged p q =
-      ap any_unknown (drop-cons ids i 0 h)
-      ∙ ap₂ (λ (a b : Bool). cond a (any_unknown (drop (suc i) ids)) (cond b true (any_unknown (drop (suc i) ids)))) p q
-      ∙ rw add-one
+-- the test of one ID, and of all
+abbrev pub unknown : ℕ → Bool
+unknown id = not (eqb id 0) && eqb (digest_length id) 0
 
-  -- none, known and unknown
-  pub skips-none : get_or ids i 0 ≡ 0 → any_unknown (drop i ids) ≡ any_unknown (drop (i + 1) ids)
-  skips-none e = judged (eq-eqb (get_or ids i 0) 0 e) refl
-
-  pub skips-known : (get_or ids i 0 ≡ 0 → ⊥) → (digest_length (get_or ids i 0) ≡ 0 → ⊥) → any_unknown (drop i ids) ≡ any_unknown (drop (i + 1) ids)
-  skips-known e f = judged (ne_eqb (get_or ids i 0) 0 e) (ne_eqb (digest_length (get_or ids i 0)) 0 f)
-
-  pub meets-unknown : (get_or ids i 0 ≡ 0 → ⊥) → digest_length (get_or ids i 0) ≡ 0 → any_unknown (drop i ids) ≡ true
-  meets-unknown e f = judged (ne_eqb (get_or ids i 0) 0 e) (eq-eqb (digest_length (get_or ids i 0)) 0 f)
+pub any-unknown : (ids : List ℕ) → list_any unknown ids ≡ any_unknown ids
+unfolding any_unknown
+any-unknown [] = refl
+any-unknown (id ∷ ids) = step (eqb id 0) (eqb (digest_length id) 0) (any-unknown ids)
+  where
+    step : (a b : Bool) {t u : Bool} → t ≡ u → (not a && b || t) ≡ cond a u (cond b true u)
+    step true b e = e
+    step false true e = refl
+    step false false e = e
 
 -- ---- a digest in the 64 bytes lent for it
 
@@ -76,6 +75,9 @@ module _ (ids : List ℕ) (i : ℕ) (h : i < length ids) where
 pub record Digested (id : ℕ) (m out : List ℕ) (n : ℕ) : Type 0 where
   pub bytes : out ≡ in_sixty_four (digest id m)
   pub counted : n ≡ digest_length id
+
+pub digested : {id n : ℕ} {m out : List ℕ} → out ≡ in_sixty_four (digest id m) → n ≡ digest_length id → Digested id m out n
+digested e f = record { bytes = e; counted = f }
 
 module _ {id n : ℕ} {m out : List ℕ} (e : Digested id m out n) where
   digest-taken : take n out ≡ digest id m
@@ -105,56 +107,47 @@ same-append (x ∷ a) b (y ∷ s) =
     ap (λ (t : Bool). eqb x y && t) (same-append a b s)
     ∙ sym (and_assoc (eqb x y) (same a (take (length a) s)) (same b (drop (length a) s)))
 
--- what is left to compare, with i digests compared and at bytes of s
-abbrev pub Left : List ℕ → List ℕ → List ℕ → ℕ → ℕ → Bool
-Left ids m s i at = same (hashsum (drop i ids) m) (drop at s)
+-- how std compares
+pointwise-same : (a b : List ℕ) (t : Bool) → pointwise eqb a b ≡ t → same b a ≡ t
+pointwise-same a b true e = eq-same b a (sym ((bytes_eq-Decides a b).0 e))
+pointwise-same a b false e = ne_same b a (λ z. false≢true (sym e ∙ (bytes_eq-Decides a b).1 (sym z)))
 
 -- nothing is expected behind the last digest
-pub compared-all : (ids m s : List ℕ) (i at : ℕ) → length ids ≤ i → at ≤ length s → Left ids m s i at ≡ eqb at (length s)
+pub compared-all : (ids m s : List ℕ) → same (hashsum (drop (length ids) ids) m) s ≡ eqb (length s) 0
 unfolding hashsum same
-compared-all ids m s i at h l =
-    ap (λ (t : List ℕ). same (hashsum t m) (drop at s)) (drop_of_length-le ids {i = i} h) ∙ go (eqb at (length s)) refl
-  where
-    go : (t : Bool) → eqb at (length s) ≡ t → same [] (drop at s) ≡ t
-    go true e = let f : at ≡ length s = eqb-true at (length s) e in ap (same []) (drop_of_length-le s {i = at} (omega arith))
-    go false e = ne_same [] (drop at s) (λ z. eqb-false at (length s) e (omega (arith, ap length z, length-drop at s)))
+compared-all ids m [] = ap (λ (t : List ℕ). same (hashsum t m) []) (drop_of_length-le ids {i = length ids} (omega arith))
+compared-all ids m (x ∷ s) =
+    ap (λ (t : List ℕ). same (hashsum t m) (x ∷ s)) (drop_of_length-le ids {i = length ids} (omega arith))
+    ∙ sym (ne_eqb (length (x ∷ s)) 0 (λ z. omega arith))
 
-module _ (ids m s : List ℕ) (i at : ℕ) (h : i < length ids) {n : ℕ} {out : List ℕ} (e : Digested (get_or ids i 0) m out n) where
+module _ (ids m s : List ℕ) (i : ℕ) (h : i < length ids) {n : ℕ} {out : List ℕ} (e : Digested (get_or ids i 0) m out n) where
   abbrev d : List ℕ
   d = take n out
 
-  left-more : Left ids m s i at ≡ (same d (part s at (length d)) && Left ids m s (i + 1) (at + n))
+  left-more : same (hashsum (drop i ids) m) s ≡ (same d (take (length d) s) && same (hashsum (drop (i + 1) ids) m) (drop (length d) s))
   unfolding hashsum
   left-more =
-      ap (λ (t : List ℕ). same (hashsum t m) (drop at s)) (drop-cons ids i 0 h)
-      ∙ ap (λ (t : List ℕ). same (t ++ hashsum (drop (suc i) ids) m) (drop at s)) (sym (digest-taken e))
-      ∙ same-append d (hashsum (drop (suc i) ids) m) (drop at s)
-      ∙ ap₂ (λ (k : ℕ) (t : List ℕ). same d (part s at (length d)) && same (hashsum (drop k ids) m) t) (sym (add-one i))
-      (drop-drop (length d) at s ∙ ap (λ (k : ℕ). drop (at + k) s) (digest-counted e))
+      ap (λ (t : List ℕ). same (hashsum t m) s) (drop-cons ids i 0 h)
+      ∙ ap (λ (t : List ℕ). same (t ++ hashsum (drop (suc i) ids) m) s) (sym (digest-taken e))
+      ∙ same-append d (hashsum (drop (suc i) ids) m) s
+      ∙ ap (λ (k : ℕ). same d (take (length d) s) && same (hashsum (drop k ids) m) (drop (length d) s)) (sym (add-one i))
 
   -- the next digest does not stand there
-  pub compared-other : {t : Bool} → t ≡ same d (part s at (length d)) → not t ≡ true → Left ids m s i at ≡ false
-  compared-other {t} g f =
-      left-more ∙ ap (λ (b : Bool). b && Left ids m s (i + 1) (at + n)) (sym g ∙ sym (not-not t) ∙ ap not f)
+  pub compared-other : pointwise eqb (take (length d) s) d ≡ false → same (hashsum (drop i ids) m) s ≡ false
+  compared-other f =
+      left-more
+      ∙ ap (λ (b : Bool). b && same (hashsum (drop (i + 1) ids) m) (drop (length d) s)) (pointwise-same (take (length d) s) d false f)
 
   -- it does
-  pub compared-more : {t : Bool} → t ≡ same d (part s at (length d)) → not t ≡ false → at ≤ length s
-      → (at + n ≤ length s) × (Left ids m s i at ≡ Left ids m s (i + 1) (at + n))
-  compared-more {t} g f l =
-      let y : same d (part s at (length d)) ≡ true = sym g ∙ sym (not-not t) ∙ ap not f in (
-        omega (
-          arith,
-          ap length (same-eq d (part s at (length d)) y),
-          length-take (length d) (drop at s),
-          length-drop at s,
-          digest-counted e,
-        ),
-        left-more ∙ ap (λ (b : Bool). b && Left ids m s (i + 1) (at + n)) y,
-      )
+  pub compared-more : pointwise eqb (take (length d) s) d ≡ true
+      → same (hashsum (drop i ids) m) s ≡ same (hashsum (drop (i + 1) ids) m) (drop (length d) s)
+  compared-more f =
+      left-more
+      ∙ ap (λ (b : Bool). b && same (hashsum (drop (i + 1) ids) m) (drop (length d) s)) (pointwise-same (take (length d) s) d true f)
 
 -- ---- digests written one by one, to an offset before the message that is hashed
 
-put-none : (s : List ℕ) (at : ℕ) → put s at [] ≡ s
+pub put-none : (s : List ℕ) (at : ℕ) → put s at [] ≡ s
 put-none s at =
     ap₂ (λ (t : List ℕ) (k : ℕ). t ++ drop k s) (append-nil (take at s)) (add-zero at) ∙ take-append-drop at s
 
@@ -182,23 +175,24 @@ module _ {ids before output : List ℕ} {start n at i place : ℕ} (w : Hashed i
     hashed_length = ap length w.written ∙ length-put before at (hashsum (take i ids) message) (omega (arith, first_fits))
 
     -- the message stays as it is
-    pub message-kept : part output start n ≡ message
+    message-kept : part output start n ≡ message
     message-kept =
         ap (λ (t : List ℕ). part t start n) w.written
         ∙ part-behind-put before at (hashsum (take i ids) message) (omega (arith, first_fits)) start n first_fits
 
-    module _ (h : i < length ids) {out : List ℕ} {k : ℕ} (e : Digested (get_or ids i 0) message out k) where
+    module _ (h : i < length ids) {out : List ℕ} {k : ℕ} (e : Digested (get_or ids i 0) (part output start n) out k) where
       -- the next digest fits
       pub hashed-fits : place + k ≤ length output
       hashed-fits = omega (arith, w.placed, e.counted, length_more ids i h, first-shorter ids (i + 1), hashed_length)
 
-      pub hashed-more : Hashed ids before start n at (i + 1) (put output place (take k out)) (place + k)
-      hashed-more =
+      pub hashed-more : {after : List ℕ} → after ≡ put output place (take k out) → Hashed ids before start n at (i + 1) after (place + k)
+      hashed-more f =
           let v : List ℕ = hashsum (take i ids) message in
           let d : List ℕ = digest (get_or ids i 0) message in
           record {
             placed = omega (arith, w.placed, e.counted, length_more ids i h);
-            written = ap₂ (λ (t x : List ℕ). put t place x) w.written (digest-taken e)
+            written = f
+                ∙ ap₂ (λ (t x : List ℕ). put t place x) w.written (digest-taken e ∙ ap (digest (get_or ids i 0)) message-kept)
                 ∙ ap (λ (x : ℕ). put (put before at v) x d) w.placed
                 ∙ put-beside before at (sum_length (take i ids)) v d (length-hashsum (take i ids) message)
                 (omega (arith, length-digest (get_or ids i 0) message, length_more ids i h, first-shorter ids (i + 1)))

@@ -1,7 +1,7 @@
 -- Laws of pack's code: that its numbers fit, that its stores leave the image, and that its answer is the first broken rule.
 use mathlib.Core.Path.{◌≡◌, refl, sym, ap, ap₂, subst, ◌∙◌}
 use mathlib.Core.Bool.{Bool, true, false, cond}
-use mathlib.Core.List.{List, [], ◌∷◌, ◌++◌, append-nil}
+use mathlib.Core.List.{List, [], ◌∷◌, ◌++◌, append-nil, append_assoc}
 use Prim.Native.Nat.{ℕ, zero, suc, ◌+◌, ◌-◌, ◌*◌, ◌/◌, ◌^◌, ◌≤◌, ◌<◌}
 use native.Mathlib.Nat.{zero-mul, suc-mul, sub-zero, mul-le-mul_left, mul-le-mul_right}
 use native.Mathlib.Numerals.{add-one}
@@ -9,7 +9,7 @@ use native.Mathlib.Omega.{arith}
 use borrow.Author.Tests.{eq-eqb, ne_eqb, eqb-true, eqb-false, lt-ltb, ltb-true, ltb-false, leb-false}
 use lib.Dec.{eqb, ltb, eqb-suc-zero}
 use lib.ListN.{length, get_or, take, drop, replicate, length-append, length-replicate, drop_of_length-le}
-use lib.Seq.{take_at}
+use lib.Seq.{take_at, take-suc, length-take-le}
 use Rattle.octets.specs.Numbers.{little_bytes}
 use Rattle.octets.specs.Parts.{part, put}
 use Rattle.octets.proofs.PartLaws.{length_part, length-put, drop-behind-put}
@@ -22,6 +22,7 @@ use Rattle.chain.specs.Hashsum.{hashsum, sum_length, id_rules}
 use Rattle.chain.specs.Header.{Header, id_bytes, header_bytes, first_block, image_length, block_size_rules}
 use Rattle.chain.specs.Pack.{Order, room, blocks, padding, pack_rules, chunk, link, blocks_from, packed_header, image, packed}
 use Rattle.chain.specs.declared.header.Header.{Header as Fields}
+use Rattle.chain.proofs.HashingLaws.{put-none}
 use Rattle.chain.proofs.HashsumLaws.{known-narrow}
 use Rattle.chain.proofs.HeaderLaws.{length_ids, length-header}
 use Rattle.chain.proofs.PackLaws.{Packable, packable, fewest, padding-small, padding-fills, within}
@@ -56,16 +57,17 @@ file-below p above some =
 
 -- ---- the header's fields one behind the other
 
-four-ids : (ids : List ℕ) → length ids ≡ 4
-    → id_bytes ids
-    ≡ little_bytes 2 (get_or ids 0 0) ++ little_bytes 2 (get_or ids 1 0) ++ little_bytes 2 (get_or ids 2 0) ++ little_bytes 2 (get_or ids 3 0)
-unfolding id_bytes little_bytes
-four-ids [] e = absurd (omega arith)
-four-ids (a ∷ []) e = absurd (omega arith)
-four-ids (a ∷ b ∷ []) e = absurd (omega arith)
-four-ids (a ∷ b ∷ c ∷ []) e = absurd (omega arith)
-four-ids (a ∷ b ∷ c ∷ d ∷ []) e = refl
-four-ids (a ∷ b ∷ c ∷ d ∷ x ∷ ids) e = absurd (omega arith)
+id_bytes-append : (xs ys : List ℕ) → id_bytes (xs ++ ys) ≡ id_bytes xs ++ id_bytes ys
+unfolding id_bytes
+id_bytes-append [] ys = refl
+id_bytes-append (x ∷ xs) ys =
+    ap (λ (t : List ℕ). little_bytes 2 x ++ t) (id_bytes-append xs ys) ∙ sym (append_assoc (little_bytes 2 x) (id_bytes xs) (id_bytes ys))
+
+id_bytes-more : (ids : List ℕ) (i : ℕ) → i < length ids → id_bytes (take (i + 1) ids) ≡ id_bytes (take i ids) ++ little_bytes 2 (get_or ids i 0)
+unfolding id_bytes
+id_bytes-more ids i h =
+    ap id_bytes (rw add-one (take-suc ids i 0 h)) ∙ id_bytes-append (take i ids) (get_or ids i 0 ∷ [])
+    ∙ ap (λ (t : List ℕ). id_bytes (take i ids) ++ t) (append-nil (little_bytes 2 (get_or ids i 0)))
 
 -- the sizes, and the fields, in their order
 abbrev size_bytes : Fields → List ℕ
@@ -77,19 +79,18 @@ abbrev field_bytes : Fields → List ℕ
 field_bytes h = size_bytes h ++ id_bytes h.stream.ids ++ little_bytes 2 h.scheme ++ little_bytes 2 0 ++ little_bytes 4 h.stream.padding
 
 module _ (s : List ℕ) (enough : 36 ≤ length s) where
-  pub ids-written : (ids t₁ t₂ t₃ t₄ : List ℕ) → length ids ≡ 4
-      → t₁ ≡ put s 20 (little_bytes 2 (get_or ids 0 0)) → t₂ ≡ put t₁ 22 (little_bytes 2 (get_or ids 1 0))
-      → t₃ ≡ put t₂ 24 (little_bytes 2 (get_or ids 2 0)) → t₄ ≡ put t₃ 26 (little_bytes 2 (get_or ids 3 0))
-      → t₄ ≡ put s 20 (id_bytes ids)
+  -- one ID behind the others
+  pub ids-none : (ids : List ℕ) → s ≡ put s 20 (id_bytes (take 0 ids))
+  unfolding id_bytes
+  ids-none ids = sym (put-none s 20)
+
+  pub ids-more : (ids : List ℕ) (i : ℕ) {t u : List ℕ} → i < length ids → length ids ≡ 4 → t ≡ put s 20 (id_bytes (take i ids))
+      → u ≡ put t (20 + 2 * i) (little_bytes 2 (get_or ids i 0)) → u ≡ put s 20 (id_bytes (take (i + 1) ids))
   unfolding little_bytes
-  ids-written ids t₁ t₂ t₃ t₄ four e₁ e₂ e₃ e₄ =
-      let a = little_bytes 2 (get_or ids 0 0) in
-      let b = little_bytes 2 (get_or ids 1 0) in
-      let c = little_bytes 2 (get_or ids 2 0) in
-      let d = little_bytes 2 (get_or ids 3 0) in
-      put_next s (a ++ b ++ c) d 20 6
-      (put_next s (a ++ b) c 20 4 (put_next s a b 20 2 e₁ e₂ refl (omega arith)) e₃ refl (omega arith)) e₄ refl (omega arith)
-      ∙ ap (λ (v : List ℕ). put s 20 v) (sym (four-ids ids four))
+  ids-more ids i h four e f =
+      put_next s (id_bytes (take i ids)) (little_bytes 2 (get_or ids i 0)) 20 (2 * i) e f
+      (length_ids (take i ids) ∙ ap (λ (n : ℕ). 2 * n) (length-take-le i ids (omega arith))) (omega arith)
+      ∙ ap (λ (v : List ℕ). put s 20 v) (sym (id_bytes-more ids i h))
 
   pub sizes-written : (h : Fields) (t₁ t₂ t₃ t₄ t₅ t₆ : List ℕ)
       → t₁ ≡ put s 0 (little_bytes 4 h.magic) → t₂ ≡ put t₁ 4 (little_bytes 4 h.stream.count)

@@ -137,10 +137,8 @@ fn pack_blocks(file: &[u8], h: Header, output: &mut [u8])
     requires { Planned file.now h (length output.old) }
     ensures { Written file.now h 0 output.new }
 {
-    let s = h.stream;
-    let mut k = s.count as u64;
-    while 0 < k {
-        k = k - 1;
+    let count = h.stream.count as u64;
+    for k in (0..count).rev() {
         pack_block(file, h, k, output);
     }
 }
@@ -188,10 +186,10 @@ fn put_hashsum(ids: [u64; 4], start: usize, end: usize, at: usize, output: &mut 
 {
     let mut digest = [0u8; 64];
     let mut place = at;
-    for position in 0usize..4 {
-        let n = hashes::digest(ids[position], &output[start..end], &mut digest);
+    for id in ids {
+        let n = hashes::digest(id, &output[start..end], &mut digest);
         parts::copy(output, place, &digest[..n]);
-        place = place + n;
+        place += n;
     }
 }
 
@@ -245,8 +243,7 @@ fn put_ids(ids: [u64; 4], output: &mut [u8])
     requires { (36 ≤ length output.old) × ((i : ℕ) → get_or ids i 0 < 65536) }
     ensures { output.new ≡ put output.old 20 (id_bytes ids) }
 {
-    numbers::put_little2(output, 20, ids[0] as u16);
-    numbers::put_little2(output, 22, ids[1] as u16);
-    numbers::put_little2(output, 24, ids[2] as u16);
-    numbers::put_little2(output, 26, ids[3] as u16);
+    for (i, id) in ids.iter().enumerate() {
+        numbers::put_little2(output, 20 + 2 * i, *id as u16);
+    }
 }
