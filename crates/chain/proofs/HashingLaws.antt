@@ -108,7 +108,7 @@ same-append (x ∷ a) b (y ∷ s) =
     ∙ sym (and_assoc (eqb x y) (same a (take (length a) s)) (same b (drop (length a) s)))
 
 -- how std compares
-pointwise-same : (a b : List ℕ) (t : Bool) → pointwise eqb a b ≡ t → same b a ≡ t
+pub pointwise-same : (a b : List ℕ) (t : Bool) → pointwise eqb a b ≡ t → same b a ≡ t
 pointwise-same a b true e = eq-same b a (sym ((bytes_eq-Decides a b).0 e))
 pointwise-same a b false e = ne_same b a (λ z. false≢true (sym e ∙ (bytes_eq-Decides a b).1 (sym z)))
 

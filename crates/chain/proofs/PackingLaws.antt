@@ -13,6 +13,12 @@ use lib.Seq.{take_at, take-suc, length-take-le}
 use Rattle.octets.specs.Numbers.{little_bytes}
 use Rattle.octets.specs.Parts.{part, put}
 use Rattle.octets.proofs.PartLaws.{length_part, length-put, drop-behind-put}
+use Rattle.std.specs.Prelude.{Result}
+use Rattle.std.specs.Result.{IsErrAnd}
+use Rattle.std.proofs.lemmas.Result.{err_from_is_err_and}
+use Rattle.answers.specs.Codes.{number, code_of}
+use Rattle.answers.specs.declared.codes.Refusal.{Refusal}
+use Rattle.answers.proofs.RefusalLaws.{number-positive}
 use Rattle.answers.specs.Rules.{Rule, rule, first_broken, signature_rules, size_rules}
 use Rattle.answers.proofs.RuleLaws.{zero-all-hold, both_hold, refuses, goes_on}
 use Rattle.chain.specs.Blocks.{padding_of}
@@ -450,3 +456,14 @@ module _ (p : Order) (s : List ℕ) (code : ℕ) (e : code ≡ first_broken (pac
   pack-done u z f =
       judged ∙ ap (λ (b : Bool). record { code = code; output = cond b (image p) s }) (eq-eqb code 0 z)
       ∙ (λ i. record { code = z i; output = sym f i })
+
+-- on a refusal
+module _ (p : Order) (s : List ℕ) {A : Type 0} (r : Result A Refusal) (why : Refusal) (h : IsErrAnd r (λ (d : Refusal). d ≡ why)) where
+  some : number why ≡ 0 → ⊥
+  some z = let e = number-positive why in omega arith
+
+  pub length-exits : number why ≡ first_broken (pack_rules p (length s)) → packed p s ≡ record { code = code_of r; output = s }
+  length-exits e = let q = err_from_is_err_and r h in rw (q.1, q.2) (pack-refused p s (number why) e some)
+
+  pub order-exits : number why ≡ first_broken (order_rules p) → packed p s ≡ record { code = code_of r; output = s }
+  order-exits e = length-exits (order-refuses p (number why) e some (length s))

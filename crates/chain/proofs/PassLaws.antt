@@ -57,6 +57,11 @@ module _ (image approved : List ℕ) (x code : ℕ) (e : code ≡ first_broken (
   pub starts-behind : code ≡ 0 → field_start image approved x ≡ length approved
   starts-behind z = cond-eq (first_broken (stream_rules image approved x)) 0 (length approved) 0 (sym e ∙ z)
 
+-- the field lies in the image
+pub field-inside : (image approved : List ℕ) (x : ℕ) → first_broken (stream_rules image approved x) ≡ 0 → length approved + x ≤ length image
+field-inside image approved x e =
+    let q = (stream-passed image approved x e).1 in omega (arith, q.exact, q.sound.approved, q.sound.signature)
+
 -- the field is empty just where it begins nowhere, and it is the part of the image from there on
 module _ (image approved : List ℕ) (x : ℕ) where
   abbrev C : ℕ

@@ -4,6 +4,7 @@ use Rattle.chain.specs.Header.{Header, Stream}
 use Rattle.chain.specs.Pack.{Order}
 use Rattle.chain.specs.declared.header.Header.{Header as Fields}
 use Rattle.chain.specs.declared.header.Stream.{Stream as Numbers}
+use Rattle.chain.specs.declared.pack.Order.{Order as Wanted}
 
 -- what is said of the blocks
 abbrev pub stream_of : Numbers → Stream
@@ -32,3 +33,7 @@ header_with h root =
 abbrev pub order_of : List ℕ → Fields → Order
 order_of file h =
     record { file = file; ids = h.stream.ids; block_size = h.stream.block_size; signature = h.signature }
+
+-- what is to be packed
+abbrev pub ordered : Wanted → Order
+ordered o = record { file = o.file.now; ids = o.ids; block_size = o.block_size; signature = o.signature }

@@ -1,20 +1,20 @@
 -- What the code's contracts ask for and promise, beside the definitions themselves.
-use Rattle.std.specs.Prelude.{not, cond, List, [], ◌∷◌, ◌++◌, ◌≡◌, ℕ, ◌+◌, ◌-◌, ◌*◌, ◌^◌, ◌≤◌, ◌<◌, eqb, length, drop, replicate}
+use Rattle.std.specs.Prelude.{not, cond, List, [], ◌∷◌, ◌++◌, ◌≡◌, ℕ, ◌+◌, ◌-◌, ◌*◌, ◌^◌, ◌≤◌, ◌<◌, eqb, length, drop, replicate, Result, IfOk}
 use Rattle.octets.specs.Parts.{part, put}
 use Rattle.answers.specs.Answers.{answer_after, written_after}
+use Rattle.answers.specs.Codes.{code_of}
 use Rattle.answers.specs.Rules.{Rule, rule, first_broken, signature_rules, size_rules}
 use Rattle.answers.specs.declared.Answer.{Answer}
+use Rattle.answers.specs.declared.codes.Refusal.{Refusal}
 use Rattle.chain.specs.Blocks.{proved_blocks, blocks_stop}
-use Rattle.chain.specs.Code.{stream_of, header_with, order_of}
+use Rattle.chain.specs.Code.{header_with, order_of}
 use Rattle.chain.specs.Hashsum.{hashsum, sum_length, id_rules}
-use Rattle.chain.specs.Header.{Header, Stream, header_of, block_data_length, file_length, first_block, image_length}
+use Rattle.chain.specs.Header.{Header, Stream, header_of, block_data_length, first_block, image_length}
 use Rattle.chain.specs.Header.{block_size_rules, image_rules}
 use Rattle.chain.specs.Open.{open_answer, proved_file}
 use Rattle.chain.specs.Pack.{Order, pack_rules, packed_header, blocks_from}
 use Rattle.chain.specs.declared.blocks.ProvedBlocks.{ProvedBlocks}
 use Rattle.chain.specs.declared.header.Header.{Header as Fields}
-use Rattle.chain.specs.declared.header.Judgement.{Judgement}
-use Rattle.chain.specs.declared.header.Stream.{Stream as Numbers}
 
 -- the image passes 4 to 12, with the signature length that its header says
 abbrev pub Passes : List ℕ → List ℕ → Type 0
@@ -26,15 +26,6 @@ HasBlock image approved k = Passes image approved × (k < (header_of approved).s
 
 -- ---- the header
 
--- no blocks
-abbrev pub no_stream : Stream
-no_stream = record { count = 0; block_size = 0; hashsum_length = 0; ids = 0 ∷ 0 ∷ 0 ∷ 0 ∷ []; padding = 0 }
-
--- judged by some rules: the code, and what the approved header says of the blocks where that is 0
-pub record JudgedBy (rules : List Rule) (approved : List ℕ) (r : Judgement) : Type 0 where
-  pub code : r.code ≡ first_broken rules
-  pub stream : stream_of r.stream ≡ cond (eqb (first_broken rules) 0) (header_of approved).stream no_stream
-
 -- what the length of a file stands on
 pub record Sized (s : Stream) : Type 0 where
   pub above : s.hashsum_length < s.block_size
@@ -43,32 +34,21 @@ pub record Sized (s : Stream) : Type 0 where
 
 -- ---- blocks
 
--- block k of those that stand in an image from an offset on
-abbrev pub block_at : List ℕ → ℕ → ℕ → ℕ → List ℕ
-block_at image first block_size k = part image (first + k * block_size) block_size
-
--- an image that passes, with what its header says: where the first block begins, and the numbers of the blocks
-pub record Numbered (image approved : List ℕ) (first : ℕ) (s : Numbers) : Type 0 where
-  pub passes : Passes image approved
-  pub offset : first ≡ first_block (header_of approved)
-  pub stream : stream_of s ≡ (header_of approved).stream
-
 -- how many blocks are proved, and why not the next
 abbrev pub proved_of : Header → (ℕ → List ℕ) → ProvedBlocks
 proved_of d block = record { count = proved_blocks d block; stop = blocks_stop d block (proved_blocks d block) }
 
 -- ---- open
 
--- the file in the first m of these blocks can be copied into an output of n bytes
-pub record Copyable (image : List ℕ) (first : ℕ) (s : Stream) (m n : ℕ) : Type 0 where
-  pub sized : Sized s
-  pub within : first + s.count * s.block_size ≤ length image
-  pub among : m ≤ s.count
-  pub exact : n ≡ file_length s
-
 -- open's answer after this code for its arguments, and what is left in an output that held `before`
 pub record Answered (early : ℕ) (d : Header) (block : ℕ → List ℕ) (before : List ℕ) (a : Answer) (after : List ℕ) : Type 0 where
   pub answer : a ≡ answer_after early (open_answer d block)
+  pub copied : after ≡ put before 0 (written_after early (proved_file d block))
+
+-- the same of an answer that is given only where nothing of the arguments is refused
+pub record OpensTo (early : ℕ) (d : Header) (block : ℕ → List ℕ) (before : List ℕ) (r : Result Answer Refusal) (after : List ℕ) : Type 0 where
+  pub code : code_of r ≡ early
+  pub answer : IfOk r (λ a. a ≡ open_answer d block)
   pub copied : after ≡ put before 0 (written_after early (proved_file d block))
 
 -- ---- pack

@@ -3,5 +3,6 @@ pub mod Code
 pub mod ContractWords
 pub mod Hashsum
 pub mod Header
+pub mod Images
 pub mod Open
 pub mod Pack

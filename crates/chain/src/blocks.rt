@@ -1,14 +1,15 @@
-ghost use Rattle.std.specs.Prelude.{not, false, cond, [], ◌∷◌, ◌≡◌, suc, ◌+◌, ◌*◌, ◌≤◌, ◌<◌, length, eqb};
-ghost use Rattle.octets.specs.Parts.{all_zero};
-ghost use Rattle.answers.specs.Rules.{rule, first_broken};
+ghost use Rattle.std.specs.Prelude.{◌≡◌, ◌+◌, ◌*◌, ◌≤◌, ◌<◌, length};
+ghost use Rattle.answers.specs.Codes.{code_of};
+ghost use Rattle.answers.specs.Rules.{first_broken};
 ghost use Rattle.chain.specs.Blocks as spec;
 ghost use Rattle.chain.specs.Code.{stream_of};
-ghost use Rattle.chain.specs.ContractWords.{block_at, Numbered, proved_of};
-ghost use Rattle.chain.specs.Header.{header_of};
+ghost use Rattle.chain.specs.ContractWords.{Passes, proved_of};
+ghost use Rattle.chain.specs.Header.{header_of, first_block};
 
 use crate::hashsum;
 use crate::header::Stream;
-use answers::{Stop, codes};
+use answers::Stop;
+use answers::codes::Refusal;
 use octets::parts;
 
 // How many blocks are proved, and why not the next.
@@ -18,103 +19,98 @@ pub struct ProvedBlocks {
     pub stop: Stop,
 }
 
-// Proves the blocks of an image that passed, one by one, up to the first bad one. `first` is the first block's offset.
-pub fn proved(image: &[u8], approved: &[u8], first: usize, s: Stream) -> ProvedBlocks
-    requires { Numbered image.now approved.now first s }
-    ensures { result ≡ proved_of (header_of approved.now)
-        (spec.block_of image.now (header_of approved.now)) }
-{
-    let count = s.count as u64;
-    let mut k = 0u64;
-    while k < count {
-        let code = code_at(image, approved, first, s, k);
-        if code != codes::DONE {
-            return ProvedBlocks {
-                count: k,
-                stop: answers::stop_at(code, k + 1),
-            };
+// An image that passed 4 to 12 by its approved header; the first block's offset, and the numbers of its blocks.
+#[derive(Clone, Copy)]
+pub struct Image<'a> {
+    pub bytes: &'a [u8],
+    pub approved: &'a [u8],
+    pub first: usize,
+    pub stream: Stream,
+    pub ghost passes: { Passes bytes.now approved.now },
+    pub ghost offset: { first ≡ first_block (header_of approved.now) },
+    pub ghost numbers: { stream_of stream ≡ (header_of approved.now).stream },
+}
+
+impl<'a> Image<'a> {
+    ghost use Rattle.chain.specs.Images.{approved_header, block_in};
+
+    // Proves the blocks one by one, up to the first bad one.
+    pub fn proved(self) -> ProvedBlocks
+        ensures { result ≡ proved_of (approved_header self.entry) (block_in self.entry) }
+    {
+        let count = self.stream.count as u64;
+        for k in 0..count {
+            if let Err(why) = self.judged_at(k) {
+                return ProvedBlocks {
+                    count: k,
+                    stop: Stop::refused(why, k + 1),
+                };
+            }
         }
-        k = k + 1;
+        ProvedBlocks {
+            count,
+            stop: Stop::done(),
+        }
     }
-    ProvedBlocks {
-        count: k,
-        stop: answers::stop_at(codes::DONE, 0),
+
+    // Block k. Blocks are numbered from 0; a place is one more.
+    pub fn block(self, k: u64) -> &'a [u8]
+        requires { k < self.stream.count }
+        ensures { result.now ≡ block_in self.entry k }
+    {
+        let size = self.stream.block_size as usize;
+        let start = self.first + k as usize * size;
+        &self.bytes[start..start + size]
+    }
+
+    // 13 to 15, of block k.
+    pub fn judged_at(self, k: u64) -> Result<(), Refusal>
+        requires { k < self.stream.count }
+        ensures { code_of result ≡ spec.block_code (approved_header self.entry) (block_in self.entry) k }
+    {
+        judge_block(self.stream, k, self.expected(k), self.block(k))
+    }
+
+    // The hashsum that block k is to have: the header has the first one's, each block that of the next.
+    fn expected(self, k: u64) -> &'a [u8]
+        requires { k < self.stream.count }
+        ensures { result.now ≡ spec.expected (approved_header self.entry) (block_in self.entry) k }
+    {
+        if k == 0 {
+            return &self.approved[36..];
+        }
+        let before = self.block(k - 1);
+        &before[..self.stream.hashsum_length as usize]
+    }
+
+    // The file's bytes in block k.
+    pub fn file_bytes(self, k: u64) -> &'a [u8]
+        requires { k < self.stream.count }
+        ensures { result.now ≡ spec.file_bytes (approved_header self.entry).stream k (block_in self.entry k) }
+    {
+        let at = self.stream.hashsum_length as usize + padding_of(self.stream, k) as usize;
+        let block = self.block(k);
+        &block[at..]
     }
 }
 
-// Block k, as a part of the image. Blocks are numbered from 0; a place is one more.
-pub fn block<'a>(image: &'a [u8], first: usize, block_size: u32, k: u64) -> &'a [u8]
-    requires { first + k * block_size + block_size ≤ length image.now }
-    ensures { result.now ≡ block_at image.now first block_size k }
-{
-    let start = first + k as usize * block_size as usize;
-    let end = start + block_size as usize;
-    &image[start..end]
-}
-
-// The code that block k of an image that passed gets: the header has the first one's hashsum, each block that of the next.
-pub fn code_at(image: &[u8], approved: &[u8], first: usize, s: Stream, k: u64) -> u64
-    requires { Numbered image.now approved.now first s × (k < s.count) }
-    ensures { result ≡ spec.block_code (header_of approved.now)
-        (spec.block_of image.now (header_of approved.now)) k }
-{
-    let bytes = block(image, first, s.block_size, k);
-    if k == 0 {
-        return block_code(s, k, &approved[36..], bytes);
-    }
-    let sum = s.hashsum_length as usize;
-    let before = block(image, first, s.block_size, k - 1);
-    block_code(s, k, &before[..sum], bytes)
-}
-
-// The code that block k gets by its expected hashsum and its bytes: 13, 14, 15, or 0 where it passes.
-pub fn block_code(s: Stream, k: u64, expected: &[u8], block: &[u8]) -> u64
+// 13 to 15, of block k by its expected hashsum and its bytes.
+pub fn judge_block(s: Stream, k: u64, expected: &[u8], block: &[u8]) -> Result<(), Refusal>
     requires { (s.hashsum_length + spec.padding_of (stream_of s) k ≤ length block.now) × (k < s.count) }
-    ensures { result ≡ first_broken (spec.block_rules (stream_of s) k expected.now block.now) }
+    ensures { code_of result ≡ first_broken (spec.block_rules (stream_of s) k expected.now block.now) }
 {
-    let ids = s.ids;
     let sum = s.hashsum_length as usize;
     let data = sum + padding_of(s, k) as usize;
-    let hash = hashsum::hashsum_is(ids, block, expected);
-    let padding = parts::zero(&block[sum..data]);
-    let last = ends(s.count, k, &block[..sum]);
-    first_broken(hash, padding, last)
-}
-
-// The file's bytes in block k.
-pub fn file_bytes<'a>(s: Stream, k: u64, block: &'a [u8]) -> &'a [u8]
-    requires { s.hashsum_length + spec.padding_of (stream_of s) k ≤ length block.now }
-    ensures { result.now ≡ spec.file_bytes (stream_of s) k block.now }
-{
-    let at = s.hashsum_length as usize + padding_of(s, k) as usize;
-    &block[at..]
-}
-
-// The rules on a block in their order, by whether each holds.
-fn first_broken(hash: bool, padding: bool, last: bool) -> u64
-    ensures { result ≡ first_broken (rule 13 (not hash) ∷ rule 14 (not padding) ∷ rule 15 (not last) ∷ []) }
-{
-    if !hash {
-        return codes::BLOCK_HASHSUM;
+    if !hashsum::hashsum_is(s.ids, block, expected) {
+        return Err(Refusal::BlockHashsum);
     }
-    if !padding {
-        return codes::BLOCK_PADDING;
+    if !parts::zero(&block[sum..data]) {
+        return Err(Refusal::BlockPadding);
     }
-    if !last {
-        return codes::LAST_HASH;
+    if k + 1 == s.count as u64 && !parts::zero(&block[..sum]) {
+        return Err(Refusal::LastHash);
     }
-    codes::DONE
-}
-
-// Whether block k may have this hash field: that of the last is zero.
-fn ends(count: u32, k: u64, field: &[u8]) -> bool
-    requires { k < count }
-    ensures { not result ≡ cond (eqb (suc k) count) (not (all_zero field.now)) false }
-{
-    if k + 1 != count as u64 {
-        return true;
-    }
-    parts::zero(field)
+    Ok(())
 }
 
 // How many bytes of padding block k has: only the first has any.

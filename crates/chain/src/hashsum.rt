@@ -1,9 +1,10 @@
 ghost use Rattle.std.specs.Prelude.{◌≡◌};
 ghost use Rattle.octets.specs.Parts.{same};
+ghost use Rattle.answers.specs.Codes.{code_of};
 ghost use Rattle.answers.specs.Rules.{first_broken};
 ghost use Rattle.chain.specs.Hashsum as spec;
 
-use answers::codes;
+use answers::codes::Refusal;
 
 // Whether the hashsum of a message is the expected one: compared digest by digest, so that none is kept.
 pub fn hashsum_is(ids: [u64; 4], message: &[u8], expected: &[u8]) -> bool
@@ -32,14 +33,14 @@ pub fn sum_length(ids: [u64; 4]) -> u64
     n
 }
 
-// Whether the IDs may be used: 0, or the refusal.
-pub fn id_code(ids: [u64; 4]) -> u64
-    ensures { result ≡ first_broken (spec.id_rules ids) }
+// Whether the IDs may be used.
+pub fn judge_ids(ids: [u64; 4]) -> Result<(), Refusal>
+    ensures { code_of result ≡ first_broken (spec.id_rules ids) }
 {
     if ids[0] == 0 || any_unknown(ids) {
-        return codes::HASH_ID;
+        return Err(Refusal::HashId);
     }
-    codes::DONE
+    Ok(())
 }
 
 fn any_unknown(ids: [u64; 4]) -> bool

@@ -1,13 +1,16 @@
-ghost use Rattle.std.specs.Prelude.{[], ◌≡◌, ◌≤◌, length, take, drop};
-ghost use Rattle.octets.specs.Parts.{same};
+ghost use Rattle.std.specs.Prelude.{[], ◌≡◌, ◌≤◌, length, drop};
+ghost use Rattle.answers.specs.Codes.{code_of};
 ghost use Rattle.answers.specs.Rules.{first_broken};
 ghost use Rattle.chain.specs.Code.{stream_of, header_with};
-ghost use Rattle.chain.specs.ContractWords.{no_stream, JudgedBy, Sized};
+ghost use Rattle.chain.specs.ContractWords.{Sized};
 ghost use Rattle.chain.specs.Header as spec;
+ghost use Rattle.chain.specs.Images.{JudgedBy};
 
+use crate::blocks::Image;
 use crate::hashsum;
-use answers::{codes, rules};
-use octets::{numbers, parts};
+use answers::codes::Refusal;
+use answers::rules;
+use octets::numbers::Number;
 
 // The magic at the start of each signed header.
 pub const MAGIC: u32 = 0xe6019598;
@@ -32,77 +35,37 @@ pub struct Header {
     pub scheme: u16,
 }
 
-// What an image gets before any block is looked at, and the numbers of its blocks: all zero where it is refused.
-#[derive(Clone, Copy)]
-pub struct Judgement {
-    pub code: u64,
-    pub stream: Stream,
-}
-
 // 1 and 4 to 12, of an image by its approved header.
-pub fn stream_judged(image: &[u8], approved: &[u8], signature: u64) -> Judgement
-    ensures { JudgedBy (spec.stream_rules image.now approved.now signature) approved.now result }
+pub fn stream_judged<'a>(
+    image: &'a [u8],
+    approved: &'a [u8],
+    signature: u64,
+) -> Result<Image<'a>, Refusal>
+    ensures { JudgedBy (spec.stream_rules image.now approved.now signature) image.now approved.now result }
 {
-    let first = rules::signature_code(signature);
-    if first != codes::DONE {
-        return refusal(first);
-    }
-    let second = rules::size_code(image.len() as u64);
-    if second != codes::DONE {
-        return refusal(second);
-    }
+    rules::judge_signature(signature)?;
+    rules::judge_size(image.len() as u64)?;
     judged(image, approved, signature)
 }
 
 // 4 to 12. This is the one place where the header is read.
-pub fn judged(image: &[u8], approved: &[u8], signature: u64) -> Judgement
-    ensures { JudgedBy (spec.image_rules image.now approved.now signature) approved.now result }
+pub fn judged<'a>(image: &'a [u8], approved: &'a [u8], signature: u64) -> Result<Image<'a>, Refusal>
+    ensures { JudgedBy (spec.image_rules image.now approved.now signature) image.now approved.now result }
 {
-    if approved.len() < 36 {
-        return refusal(codes::APPROVED);
-    }
-    if !starts_with(image, approved) {
-        return refusal(codes::APPROVED);
+    if approved.len() < 36 || !image.starts_with(approved) {
+        return Err(Refusal::Approved);
     }
     let h = header_of(approved);
-    let stream = h.stream;
-    let code = field_code(h, approved.len() as u64, signature);
-    if code != codes::DONE {
-        return refusal(code);
-    }
+    judge_fields(h, approved.len() as u64, signature)?;
     if image.len() as u64 != image_length(h) {
-        return refusal(codes::IMAGE_LENGTH);
+        return Err(Refusal::ImageLength);
     }
-    Judgement {
-        code: codes::DONE,
-        stream,
-    }
-}
-
-fn refusal(code: u64) -> Judgement
-    ensures { (result.code ≡ code) × (stream_of result.stream ≡ no_stream) }
-{
-    Judgement {
-        code,
-        stream: Stream {
-            count: 0,
-            block_size: 0,
-            hashsum_length: 0,
-            padding: 0,
-            ids: [0, 0, 0, 0],
-        },
-    }
-}
-
-// Whether an image starts with its approved header.
-fn starts_with(image: &[u8], approved: &[u8]) -> bool
-    ensures { result ≡ same (take (length approved.now) image.now) approved.now }
-{
-    let n = approved.len();
-    if image.len() < n {
-        return false;
-    }
-    parts::equal(&image[..n], approved)
+    Ok(Image {
+        bytes: image,
+        approved,
+        first: approved.len() + signature as usize,
+        stream: h.stream,
+    })
 }
 
 // The fields of an approved header.
@@ -111,11 +74,11 @@ fn header_of(approved: &[u8]) -> Header
     ensures { header_with result (drop 36 approved.now) ≡ spec.header_of approved.now }
 {
     Header {
-        magic: numbers::little4(approved, 0),
+        magic: u32::little(approved, 0),
         stream: stream_of(approved),
-        signature: numbers::little4(approved, 12),
-        header_size: numbers::little2(approved, 16),
-        scheme: numbers::little2(approved, 28),
+        signature: u32::little(approved, 12),
+        header_size: u16::little(approved, 16),
+        scheme: u16::little(approved, 28),
     }
 }
 
@@ -124,10 +87,10 @@ fn stream_of(approved: &[u8]) -> Stream
     ensures { stream_of result ≡ (spec.header_of approved.now).stream }
 {
     Stream {
-        count: numbers::little4(approved, 4),
-        block_size: numbers::little4(approved, 8),
-        hashsum_length: numbers::little2(approved, 18),
-        padding: numbers::little4(approved, 32),
+        count: u32::little(approved, 4),
+        block_size: u32::little(approved, 8),
+        hashsum_length: u16::little(approved, 18),
+        padding: u32::little(approved, 32),
         ids: ids_of(approved),
     }
 }
@@ -137,10 +100,10 @@ fn ids_of(approved: &[u8]) -> [u64; 4]
     ensures { result ≡ (spec.header_of approved.now).stream.ids }
 {
     [
-        numbers::little2(approved, 20) as u64,
-        numbers::little2(approved, 22) as u64,
-        numbers::little2(approved, 24) as u64,
-        numbers::little2(approved, 26) as u64,
+        u16::little(approved, 20) as u64,
+        u16::little(approved, 22) as u64,
+        u16::little(approved, 24) as u64,
+        u16::little(approved, 26) as u64,
     ]
 }
 
@@ -153,68 +116,56 @@ pub fn image_length(h: Header) -> u64
     h.header_size as u64 + h.signature as u64 + s.count as u64 * s.block_size as u64
 }
 
-// 5 to 11, of an approved header of this length: 0, or the refusal.
-fn field_code(h: Header, approved: u64, signature: u64) -> u64
-    ensures { result ≡ first_broken (spec.field_rules (header_with h []) approved signature) }
+// 5 to 11, of an approved header of this length.
+#[tactic(auto, using(answers::proofs::RefusalLaws::judged_in_order))]
+fn judge_fields(h: Header, approved: u64, signature: u64) -> Result<(), Refusal>
+    ensures { code_of result ≡ first_broken (spec.field_rules (header_with h []) approved signature) }
 {
     let s = h.stream;
-    let ids = s.ids;
     let sum = s.hashsum_length as u64;
     if h.magic != MAGIC {
-        return codes::HEADER_MAGIC;
+        return Err(Refusal::HeaderMagic);
     }
-    let id = hashsum::id_code(ids);
-    if id != codes::DONE {
-        return id;
+    hashsum::judge_ids(s.ids)?;
+    if sum != hashsum::sum_length(s.ids) {
+        return Err(Refusal::HashsumLength);
     }
-    if sum != hashsum::sum_length(ids) {
-        return codes::HASHSUM_LENGTH;
-    }
-    if h.header_size as u64 != 36 + sum {
-        return codes::HEADER_SIZE;
-    }
-    if h.header_size as u64 != approved {
-        return codes::HEADER_SIZE;
+    if h.header_size as u64 != 36 + sum || h.header_size as u64 != approved {
+        return Err(Refusal::HeaderSize);
     }
     if h.scheme != 1 {
-        return codes::SCHEME;
+        return Err(Refusal::Scheme);
     }
     if h.signature as u64 != signature {
-        return codes::SIGNATURE_LENGTH;
+        return Err(Refusal::SignatureLength);
     }
-    count_code(s)
+    judge_count(s)
 }
 
-// 11, of the blocks: 0, or the refusal.
-fn count_code(s: Stream) -> u64
-    ensures { result ≡ first_broken (spec.count_rules (stream_of s)) }
+// 11, of the blocks.
+fn judge_count(s: Stream) -> Result<(), Refusal>
+    ensures { code_of result ≡ first_broken (spec.count_rules (stream_of s)) }
 {
     let block_size = s.block_size as u64;
     let sum = s.hashsum_length as u64;
     if s.count == 0 {
-        return codes::BLOCKS;
+        return Err(Refusal::Blocks);
     }
-    let code = block_size_code(block_size, sum);
-    if code != codes::DONE {
-        return code;
-    }
+    judge_block_size(block_size, sum)?;
     if block_size - sum <= s.padding as u64 {
-        return codes::BLOCKS;
+        return Err(Refusal::Blocks);
     }
-    codes::DONE
+    Ok(())
 }
 
-// 11, of the block size: 0, or the refusal.
-pub fn block_size_code(block_size: u64, sum: u64) -> u64
-    ensures { result ≡ first_broken (spec.block_size_rules block_size sum) }
+// 11, of the block size.
+pub fn judge_block_size(block_size: u64, sum: u64) -> Result<(), Refusal>
+    ensures { code_of result ≡ first_broken (spec.block_size_rules block_size sum) }
 {
-    if block_size <= sum {
-        return codes::BLOCKS;
+    if block_size <= sum || 1048576 < block_size {
+        return Err(Refusal::Blocks);
     }
-    if 1048576 < block_size {
-        return codes::BLOCKS;
-    }
-    codes::DONE
+    Ok(())
 }
 
 // The length of the file that these blocks hold.

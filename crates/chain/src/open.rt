@@ -1,15 +1,16 @@
-ghost use Rattle.std.specs.Prelude.{◌≡◌, ◌+◌, length};
+ghost use Rattle.std.specs.Prelude.{◌≡◌, ◌+◌, ◌≤◌, length};
 ghost use Rattle.octets.specs.Parts.{put};
 ghost use Rattle.answers.specs.Rules.{first_broken};
 ghost use Rattle.chain.specs.Blocks.{block_of, file_up_to};
-ghost use Rattle.chain.specs.Code.{stream_of};
-ghost use Rattle.chain.specs.ContractWords.{block_at, Copyable, Answered};
-ghost use Rattle.chain.specs.Header.{header_of};
+ghost use Rattle.chain.specs.ContractWords.{Answered, OpensTo};
+ghost use Rattle.chain.specs.Header.{header_of, file_length};
+ghost use Rattle.chain.specs.Images.{approved_header, block_in};
 ghost use Rattle.chain.specs.Open as spec;
 
-use crate::header::Stream;
-use crate::{blocks, header};
-use answers::{Answer, codes};
+use crate::blocks::Image;
+use crate::header;
+use answers::Answer;
+use answers::codes::{self, Refusal};
 use octets::parts;
 
 // Proves an image's blocks one by one, and copies the file out as far as they are proved.
@@ -24,7 +25,7 @@ pub fn open(
         ≡ record { code = result; answer = answer.new; lent = output.new } }
 {
     if answer.len() != answers::RECORD_LENGTH {
-        return codes::ARGUMENT;
+        return Refusal::Argument.code();
     }
     let a = open_answer(image, header, signature_length, output);
     answers::write_answer(answer, a)
@@ -36,8 +37,7 @@ pub fn signature_field<'a>(image: &'a [u8], header: &[u8], signature: u64) -> &'
     ensures ref_ptr_value { result.ref_ptr
         ≡ (image.entry.ref_ptr.0, image.entry.ref_ptr.1 + spec.field_start image.now header.now signature) }
 {
-    let j = header::stream_judged(image, header, signature);
-    if j.code != codes::DONE {
+    if header::stream_judged(image, header, signature).is_err() {
         return &image[0..0];
     }
     let start = header.len();
@@ -52,35 +52,46 @@ fn open_answer(image: &[u8], approved: &[u8], signature: u64, output: &mut [u8])
         (header_of approved.now) (block_of image.now (header_of approved.now))
         output.old result output.new }
 {
-    let j = header::stream_judged(image, approved, signature);
-    if j.code != codes::DONE {
-        return answers::refused(j.code);
+    match opened(image, approved, signature, output) {
+        Ok(answer) => answer,
+        Err(why) => answers::refused(why),
     }
-    let s = j.stream;
-    if output.len() as u64 != header::file_length(s) {
-        return answers::refused(codes::OUTPUT_LENGTH);
+}
+
+// The answer where nothing of these is refused.
+fn opened(
+    image: &[u8],
+    approved: &[u8],
+    signature: u64,
+    output: &mut [u8],
+) -> Result<Answer, Refusal>
+    ensures { OpensTo
+        (first_broken (spec.open_rules image.now approved.now signature (length output.old)))
+        (header_of approved.now) (block_of image.now (header_of approved.now))
+        output.old result output.new }
+{
+    let image = header::stream_judged(image, approved, signature)?;
+    if output.len() as u64 != header::file_length(image.stream) {
+        return Err(Refusal::OutputLength);
     }
-    let first = approved.len() + signature as usize;
-    let p = blocks::proved(image, approved, first, s);
-    let stored = copy_file(image, first, s, p.count, output);
-    answers::told(p.stop, 0, stored as u64, 0)
+    let p = image.proved();
+    let stored = copy_file(image, p.count, output);
+    Ok(answers::told(p.stop, 0, stored as u64, 0))
 }
 
 // Copies the file's bytes in the first blocks out; how many they are.
-fn copy_file(image: &[u8], first: usize, s: Stream, blocks: u64, output: &mut [u8]) -> usize
-    requires { Copyable image.now first (stream_of s) blocks (length output.old) }
+fn copy_file(image: Image, blocks: u64, output: &mut [u8]) -> usize
+    requires among { blocks ≤ image.stream.count }
+    requires exact { length output.old ≡ file_length (approved_header image).stream }
     ensures output_after { output.new
-        ≡ put output.old 0 (file_up_to (stream_of s) (block_at image.now first s.block_size) blocks) }
-    ensures value { result ≡ length (file_up_to (stream_of s) (block_at image.now first s.block_size) blocks) }
+        ≡ put output.old 0 (file_up_to (approved_header image.entry).stream (block_in image.entry) blocks) }
+    ensures value { result ≡ length (file_up_to (approved_header image.entry).stream (block_in image.entry) blocks) }
 {
-    let mut k = 0u64;
-    let mut at = 0usize;
-    while k < blocks {
-        let block = blocks::block(image, first, s.block_size, k);
-        let bytes = blocks::file_bytes(s, k, block);
+    let mut at = 0;
+    for k in 0..blocks {
+        let bytes = image.file_bytes(k);
         parts::copy(output, at, bytes);
-        at = at + bytes.len();
-        k = k + 1;
+        at += bytes.len();
     }
     at
 }

@@ -1,8 +1,9 @@
 ghost use Rattle.std.specs.Prelude.{[], ◌∷◌, ◌++◌, ◌≡◌, ℕ, ◌+◌, ◌-◌, ◌/◌, ◌^◌, ◌≤◌, ◌<◌, length, get_or};
 ghost use Rattle.octets.specs.Numbers.{little_bytes};
 ghost use Rattle.octets.specs.Parts.{part, put};
+ghost use Rattle.answers.specs.Codes.{code_of};
 ghost use Rattle.answers.specs.Rules.{first_broken};
-ghost use Rattle.chain.specs.Code.{header_with, order_of};
+ghost use Rattle.chain.specs.Code.{header_with, order_of, ordered};
 ghost use Rattle.chain.specs.ContractWords.{order_rules, length_rules, Orderly, Planned, Linkable, Written, start_of, room_of, link_before};
 ghost use Rattle.chain.specs.Hashsum.{hashsum, sum_length};
 ghost use Rattle.chain.specs.Header.{id_bytes, header_bytes};
@@ -10,8 +11,10 @@ ghost use Rattle.chain.specs.Pack as spec;
 
 use crate::header::{Header, Stream};
 use crate::{blocks, hashsum, header};
-use answers::{codes, rules};
-use octets::{numbers, parts};
+use answers::codes::{self, Refusal};
+use answers::rules;
+use octets::numbers::Number;
+use octets::parts;
 
 // Writes the image of a file, with a zeroed signature field; on a refusal it writes nothing.
 pub fn pack(
@@ -32,83 +35,90 @@ pub fn pack(
     }) output.old
         ≡ record { code = result; output = output.new } }
 {
-    let ids = [id1, id2, id3, id4];
-    let order = order_code(file, ids, block_size, signature_length);
-    if order != codes::DONE {
-        return order;
+    let order = Order {
+        file,
+        ids: [id1, id2, id3, id4],
+        block_size,
+        signature: signature_length,
+    };
+    match packed(order, output) {
+        Ok(()) => codes::DONE,
+        Err(why) => why.code(),
     }
-    let h = packed_header(file, ids, block_size, signature_length);
-    let exact = length_code(h, output.len() as u64);
-    if exact != codes::DONE {
-        return exact;
-    }
-    pack_image(file, h, output);
-    codes::DONE
 }
 
-// 6, 11, 28 and 1, of what is packed: 0, or the refusal. The image is longer than the file, so past this nothing wraps.
-fn order_code(file: &[u8], ids: [u64; 4], block_size: u64, signature: u64) -> u64
-    ensures { result
-        ≡ first_broken (order_rules (record { file = file.entry.now; ids = ids; block_size = block_size; signature = signature })) }
+fn packed(order: Order, output: &mut [u8]) -> Result<(), Refusal>
+    ensures { spec.packed (ordered order.entry) output.old ≡ record { code = code_of result; output = output.new } }
 {
-    let id = hashsum::id_code(ids);
-    if id != codes::DONE {
-        return id;
+    order.judged()?;
+    let h = order.header();
+    judge_length(h, output.len() as u64)?;
+    pack_image(order.file, h, output);
+    Ok(())
+}
+
+// What is packed, and how.
+#[derive(Clone, Copy)]
+struct Order<'a> {
+    file: &'a [u8],
+    ids: [u64; 4],
+    block_size: u64,
+    signature: u64,
+}
+
+impl<'a> Order<'a> {
+    // 6, 11, 28 and 1. The image is longer than the file, so past this nothing wraps.
+    #[tactic(auto, using(answers::proofs::RefusalLaws::judged_in_order))]
+    fn judged(self) -> Result<(), Refusal>
+        ensures { code_of result ≡ first_broken (order_rules (ordered self.entry)) }
+    {
+        hashsum::judge_ids(self.ids)?;
+        header::judge_block_size(self.block_size, hashsum::sum_length(self.ids))?;
+        if self.file.is_empty() {
+            return Err(Refusal::EmptyFile);
+        }
+        rules::judge_signature(self.signature)?;
+        rules::judge_size(self.file.len() as u64)
     }
-    let blocks = header::block_size_code(block_size, hashsum::sum_length(ids));
-    if blocks != codes::DONE {
-        return blocks;
+
+    // The fields that the file is packed under.
+    fn header(self) -> Header
+        requires { Orderly (ordered self) }
+        ensures { header_with result (spec.packed_header (order_of self.entry.file.now result)).root
+            ≡ spec.packed_header (ordered self.entry) }
+    {
+        let n = self.file.len() as u64;
+        let sum = hashsum::sum_length(self.ids);
+        let room = self.block_size - sum;
+        let count = block_count(n, room);
+        let stream = Stream {
+            count: count as u32,
+            block_size: self.block_size as u32,
+            hashsum_length: sum as u16,
+            padding: (count * room - n) as u32,
+            ids: self.ids,
+        };
+        Header {
+            magic: header::MAGIC,
+            stream,
+            signature: self.signature as u32,
+            header_size: (36 + sum) as u16,
+            scheme: 1,
+        }
     }
-    if file.len() == 0 {
-        return codes::EMPTY_FILE;
-    }
-    let field = rules::signature_code(signature);
-    if field != codes::DONE {
-        return field;
-    }
-    rules::size_code(file.len() as u64)
 }
 
 // 1, the image over 2^30 bytes, and 29, for an output of this length.
-fn length_code(h: Header, output: u64) -> u64
+fn judge_length(h: Header, output: u64) -> Result<(), Refusal>
     requires { h.stream.block_size ≤ 1048576 }
-    ensures { result ≡ first_broken (length_rules (header_with h []) output) }
+    ensures { code_of result ≡ first_broken (length_rules (header_with h []) output) }
 {
     let n = header::image_length(h);
-    let code = rules::size_code(n);
-    if code != codes::DONE {
-        return code;
-    }
+    rules::judge_size(n)?;
     if output != n {
-        return codes::OUTPUT_LENGTH;
+        return Err(Refusal::OutputLength);
     }
-    codes::DONE
-}
-
-// The fields that a file is packed under.
-fn packed_header(file: &[u8], ids: [u64; 4], block_size: u64, signature: u64) -> Header
-    requires { Orderly (record { file = file.now; ids = ids; block_size = block_size; signature = signature }) }
-    ensures { header_with result (spec.packed_header (order_of file.entry.now result)).root
-        ≡ spec.packed_header (record { file = file.entry.now; ids = ids; block_size = block_size; signature = signature }) }
-{
-    let n = file.len() as u64;
-    let sum = hashsum::sum_length(ids);
-    let room = block_size - sum;
-    let count = block_count(n, room);
-    let stream = Stream {
-        count: count as u32,
-        block_size: block_size as u32,
-        hashsum_length: sum as u16,
-        padding: (count * room - n) as u32,
-        ids,
-    };
-    Header {
-        magic: header::MAGIC,
-        stream,
-        signature: signature as u32,
-        header_size: (36 + sum) as u16,
-        scheme: 1,
-    }
+    Ok(())
 }
 
 // As few blocks with this room for data as hold the file.
@@ -217,9 +227,9 @@ fn put_fields(h: Header, output: &mut [u8])
     let ids = s.ids;
     put_sizes(h, output);
     put_ids(ids, output);
-    numbers::put_little2(output, 28, h.scheme);
-    numbers::put_little2(output, 30, 0);
-    numbers::put_little4(output, 32, s.padding);
+    h.scheme.put_little(output, 28);
+    0u16.put_little(output, 30);
+    s.padding.put_little(output, 32);
 }
 
 // Magic, count and the sizes.
@@ -230,12 +240,12 @@ fn put_sizes(h: Header, output: &mut [u8])
         ++ little_bytes 4 h.signature ++ little_bytes 2 h.header_size ++ little_bytes 2 h.stream.hashsum_length) }
 {
     let s = h.stream;
-    numbers::put_little4(output, 0, h.magic);
-    numbers::put_little4(output, 4, s.count);
-    numbers::put_little4(output, 8, s.block_size);
-    numbers::put_little4(output, 12, h.signature);
-    numbers::put_little2(output, 16, h.header_size);
-    numbers::put_little2(output, 18, s.hashsum_length);
+    h.magic.put_little(output, 0);
+    s.count.put_little(output, 4);
+    s.block_size.put_little(output, 8);
+    h.signature.put_little(output, 12);
+    h.header_size.put_little(output, 16);
+    s.hashsum_length.put_little(output, 18);
 }
 
 // The IDs, each at its position.
@@ -244,6 +254,6 @@ fn put_ids(ids: [u64; 4], output: &mut [u8])
     ensures { output.new ≡ put output.old 20 (id_bytes ids) }
 {
     for (i, id) in ids.iter().enumerate() {
-        numbers::put_little2(output, 20 + 2 * i, *id as u16);
+        (*id as u16).put_little(output, 20 + 2 * i);
     }
 }

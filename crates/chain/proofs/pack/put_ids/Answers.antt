@@ -7,4 +7,4 @@ loop-i-init c = ids-none c.args.output.now c.requires.0 c.args.ids
 
 pub loop-i-preserved : goal.loop-i-preserved
 loop-i-preserved c =
-    ids-more c.args.output.now c.requires.0 c.args.ids c.loop-i.i (omega arith) (omega arith) c.loop-i.invariant c.put_little2.ensures
+    ids-more c.args.output.now c.requires.0 c.args.ids c.loop-i.i (omega arith) (omega arith) c.loop-i.invariant c.put_little.ensures
