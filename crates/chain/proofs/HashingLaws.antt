@@ -12,14 +12,14 @@ use Rattle.std.proofs.lemmas.Slice.Eq.{bytes_eq-Decides}
 use borrow.Author.Tests.{ne_eqb}
 use lib.Dec.{eqb}
 use lib.ListN.{length, get_or, take, drop, replicate, drop_of_length-le, take-append-drop}
-use lib.ListN.{length-append, length-replicate, length-take}
-use lib.Seq.{take-suc, take_all, take_at, drop-cons}
+use lib.ListN.{length-take}
+use lib.Seq.{take-suc, take_at, drop-cons}
 use Rattle.octets.specs.Parts.{part, put, same}
 use Rattle.octets.proofs.PartLaws.{length-put, part-behind-put, put-beside}
 use Rattle.octets.proofs.TestLaws.{eq-same, ne_same}
 use Rattle.hashes.specs.Code.{in_sixty_four}
 use Rattle.hashes.specs.Digests.{digest, digest_length}
-use Rattle.hashes.proofs.Theorems.{length-digest, digest_length-most}
+use Rattle.hashes.proofs.Theorems.{length-digest}
 use Rattle.chain.specs.Hashsum.{hashsum, sum_length, any_unknown}
 use Rattle.chain.proofs.HashsumLaws.{length-hashsum}
 
@@ -91,11 +91,6 @@ module _ {id n : ℕ} {m out : List ℕ} (e : Digested id m out n) where
   pub digest-within : n ≤ length out
   digest-within = omega (arith, digest-counted, length-take n out)
 
-  pub digest-room : length out ≡ 64
-  digest-room =
-      ap length e.bytes ∙ length-append (digest id m) (replicate (64 - length (digest id m)) 0)
-      ∙ omega (arith, length-digest id m, digest_length-most id, length-replicate {A = ℕ} (64 - length (digest id m)) 0)
-
 -- ---- digests compared one by one
 
 -- joined bytes are the same where their first part is and what comes behind it
@@ -163,9 +158,6 @@ hashed-none ids before start n at = record { placed = omega arith; written = sym
 module _ {ids before output : List ℕ} {start n at i place : ℕ} (w : Hashed ids before start n at i output place) where
   abbrev message : List ℕ
   message = part before start n
-
-  pub hashed-all : length ids ≤ i → output ≡ put before at (hashsum ids message)
-  hashed-all h = w.written ∙ ap (λ (t : List ℕ). put before at (hashsum t message)) (take_all i ids h)
 
   module _ (apart : at + sum_length ids ≤ start) (inside : start ≤ length before) where
     first_fits : at + length (hashsum (take i ids) message) ≤ start

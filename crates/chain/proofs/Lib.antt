@@ -1,6 +1,5 @@
 pub mod BlockLaws
 pub mod CodeCases
-pub mod CodeLaws
 pub mod GivenCodes
 pub mod HashingLaws
 pub mod HashsumLaws

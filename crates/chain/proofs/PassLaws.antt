@@ -8,7 +8,7 @@ use native.Mathlib.Omega.{arith}
 use borrow.Author.Tests.{eqb-true, eqb-false}
 use lib.Dec.{eqb}
 use lib.ListN.{length, take, drop, length-drop}
-use lib.Seq.{take_all}
+use lib.Seq.{take_all, length-take-le}
 use Rattle.octets.specs.Parts.{part}
 use Rattle.answers.specs.Rules.{first_broken}
 use Rattle.answers.proofs.ChoiceLaws.{cond-eq, cond-ne}
@@ -37,6 +37,10 @@ module _ (image approved : List ℕ) (k : ℕ) (has : HasBlock image approved k)
 
   pub length-block : length (block_of image d k) ≡ d.stream.block_size
   length-block = whole-block image approved d.signature fits k has.1
+
+-- a first part has its length
+pub first_part : (s : List ℕ) (n : ℕ) → n ≤ length s → n ≡ length (take n s)
+first_part s n h = sym (length-take-le n s h)
 
 -- all from an offset on
 pub drop-is : (s : List ℕ) (at : ℕ) → at ≤ length s → take (length s - at) (drop at s) ≡ drop at s

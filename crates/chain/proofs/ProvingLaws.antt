@@ -9,12 +9,12 @@ use native.Mathlib.Numerals.{add-one}
 use native.Mathlib.Omega.{arith}
 use lib.Dec.{eqb}
 use lib.ListN.{length, take, drop, length-append}
-use Rattle.octets.specs.Parts.{part, put}
+use Rattle.octets.specs.Parts.{put}
 use Rattle.octets.proofs.PartLaws.{length-put}
 use borrow.Author.Tests.{eq-eqb, ne_eqb}
 use Rattle.std.specs.Prelude.{Result, Ok, Err, IsErr}
 use Rattle.std.proofs.lemmas.Result.{IfOk-from_err}
-use Rattle.answers.specs.Answers.{told, refused, stop_at, record_length}
+use Rattle.answers.specs.Answers.{told, stop_at, record_length}
 use Rattle.answers.specs.Codes.{number, code_of}
 use Rattle.answers.specs.Rules.{Rule, rule, first_broken}
 use Rattle.answers.specs.declared.Answer.{Answer}
@@ -30,7 +30,7 @@ use Rattle.chain.specs.Code.{stream_of}
 use Rattle.chain.specs.ContractWords.{Sized, proved_of, Answered, OpensTo}
 use Rattle.chain.specs.Header.{Header, Stream, header_of, file_length, stream_rules}
 use Rattle.chain.specs.Images.{approved_header, block_in}
-use Rattle.chain.specs.Open.{open_rules, open_answer, proved_file, opened}
+use Rattle.chain.specs.Open.{open_rules, proved_file, opened}
 use Rattle.chain.specs.declared.blocks.ProvedBlocks.{ProvedBlocks}
 use Rattle.chain.specs.declared.blocks.Image.{Image}
 use Rattle.chain.proofs.BlockLaws.{goes_on, stops, proved-le, file-none, file-more, put-more, first-part-fits}
@@ -70,9 +70,6 @@ module _ (i : Image) where
     block-fits =
         subst (λ (t : Stream). i.first + k * t.block_size + t.block_size ≤ length i.bytes.now) (sym i.numbers)
         (omega (arith, i.offset, block_within i.bytes.now i.approved.now k (i.passes, there)))
-
-    pub block-is : part i.bytes.now (i.first + k * i.stream.block_size) i.stream.block_size ≡ block_in i k
-    block-is = ap₂ (λ (n : ℕ) (t : Stream). part i.bytes.now (n + k * t.block_size) t.block_size) i.offset i.numbers
 
     pub block-length : length (block_in i k) ≡ i.stream.block_size
     block-length = length-block i.bytes.now i.approved.now k (i.passes, there) ∙ ap (λ (t : Stream). t.block_size) (sym i.numbers)
@@ -235,25 +232,6 @@ module _ (image approved : List ℕ) (signature : ℕ) (before : List ℕ) where
           answer = g ∙ ap₂ (λ (x : ProvedBlocks) (k : ℕ). told x.stop 0 k 0) m (l ∙ ap length file-is);
           copied = c ∙ ap (λ (t : List ℕ). put before 0 t) (file-is ∙ sym (cond-eq early 0 (proved_file d blocks) [] z));
         }
-
-  -- the answer of both
-  pub answered-refused : {why : Refusal} {after : List ℕ} {a : Answer}
-      → OpensTo early (header_of approved) blocks before (Err why) after
-      → a ≡ refused (number why) → Answered early (header_of approved) blocks before a after
-  answered-refused {why} q f =
-      let n : early ≢ 0 = (λ z. let h = number-positive why in let e = q.code in omega arith) in
-      record {
-        answer = f ∙ ap refused q.code ∙ sym (cond-ne early 0 (open_answer (header_of approved) blocks) (refused early) n);
-        copied = q.copied;
-      }
-
-  pub answered-proved : {after : List ℕ} {a : Answer} → OpensTo early (header_of approved) blocks before (Ok a) after
-      → Answered early (header_of approved) blocks before a after
-  answered-proved q =
-      record {
-        answer = q.answer ∙ sym (cond-eq early 0 (open_answer (header_of approved) blocks) (refused early) (sym q.code));
-        copied = q.copied;
-      }
 
   module _ (old : List ℕ) where
     pub opened-unwritten : length old ≢ record_length → opened image approved signature before old ≡ unwritten old before

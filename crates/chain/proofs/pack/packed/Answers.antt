@@ -1,22 +1,15 @@
-use Rattle.std.proofs.Common.{refl, sym, ap, ◌∙◌, length, arith}
+use Rattle.std.proofs.Common.{refl, sym, ap, ◌∙◌, length}
 use Rattle.answers.specs.Rules.{first_broken}
 use Rattle.chain.specs.Code.{ordered}
 use Rattle.chain.specs.ContractWords.{length_rules}
 use Rattle.chain.specs.Header.{Header}
 use Rattle.chain.specs.Pack.{image}
-use Rattle.chain.proofs.PackingLaws.{order-exits, length-exits, orderly, plans, order_is, pack-done, order-passes}
+use Rattle.chain.proofs.PackingLaws.{order-exits, length-exits, order_is, pack-done, order-passes}
 use Rattle.chain.proofs.pack.packed.Goals as goal
 
 pub returns-in_err-judged : goal.returns-in_err-judged
 returns-in_err-judged c =
     order-exits (ordered c.args.order) c.args.output.now c.from_residual.result c.in_err-judged.field-0.0 c.from_residual.ensures.1 c.in_err-judged.ensures
-
-pub header-h-requires : goal.header-h-requires
-header-h-requires c = orderly (ordered c.args.order) (sym c.in_ok-judged.ensures)
-
-pub judge_length-requires : goal.judge_length-requires
-judge_length-requires c =
-    omega (arith, ap (λ (d : Header). d.stream.block_size) c.header-h.ensures, (orderly (ordered c.args.order) (sym c.in_ok-judged.ensures)).below)
 
 pub returns-in_err-judge_length : goal.returns-in_err-judge_length
 returns-in_err-judge_length c =
@@ -25,14 +18,6 @@ returns-in_err-judge_length c =
     length-exits p c.args.output.now c.from_residual-in_err-judge_length.result c.in_err-judge_length.field-0.0 c.from_residual-in_err-judge_length.ensures.1
     (c.in_err-judge_length.ensures ∙ ap (λ (d : Header). first_broken (length_rules d n)) c.header-h.ensures
     ∙ sym (order-passes p (sym c.in_ok-judged.ensures) n))
-
-pub pack_image-requires : goal.pack_image-requires
-pack_image-requires c =
-    let p = ordered c.args.order in
-    let n = length c.args.output.now in
-    plans p c.header-h.result c.header-h.ensures n (omega arith)
-    (order-passes p (sym c.in_ok-judged.ensures) n
-    ∙ sym (c.in_ok-judge_length.ensures ∙ ap (λ (d : Header). first_broken (length_rules d n)) c.header-h.ensures))
 
 pub returns : goal.returns
 returns c =

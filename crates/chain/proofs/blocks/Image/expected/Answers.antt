@@ -1,6 +1,5 @@
 use Rattle.std.proofs.Common.{◌-◌, ap, ◌∙◌, take, length, arith}
-use Rattle.chain.proofs.CodeLaws.{first_part}
-use Rattle.chain.proofs.PassLaws.{drop-is}
+use Rattle.chain.proofs.PassLaws.{first_part, drop-is}
 use Rattle.chain.proofs.ProvingLaws.{enough, data-fits, first-expected, field-before}
 use Rattle.chain.proofs.blocks.Image.expected.Goals as goal
 
