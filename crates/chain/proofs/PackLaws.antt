@@ -100,10 +100,11 @@ module _ (file room : ℕ) (pos : 0 < room) where
       }
 
   -- no other number is
+  pub only-number : (n : ℕ) → file ≤ n * room → n * room < file + room → (file + room - 1) / room ≡ n
+  only-number n h l = div-eq_of_lt-le room (omega arith) (omega arith)
+
   pub only-fewest : (n : ℕ) → Fewest file room n → (file + room - 1) / room ≡ n
-  only-fewest n f =
-      div-eq_of_lt-le room (let h : n * room < file + room = f.fewest in omega arith)
-      (let h : file ≤ n * room = f.holds in omega arith)
+  only-fewest n f = only-number n f.holds f.fewest
 
 -- ---- lengths
 
