@@ -11,6 +11,7 @@ use crate::hashsum;
 use answers::codes::Refusal;
 use answers::rules;
 use octets::numbers::Number;
+use std::array;
 
 // The magic at the start of each signed header.
 pub const MAGIC: u32 = 0xe6019598;
@@ -91,20 +92,8 @@ fn stream_of(approved: &[u8]) -> Stream
         block_size: u32::little(approved, 8),
         hashsum_length: u16::little(approved, 18),
         padding: u32::little(approved, 32),
-        ids: ids_of(approved),
+        ids: array::from_fn(|i| u16::little(approved, 20 + 2 * i) as u64),
     }
-}
-
-fn ids_of(approved: &[u8]) -> [u64; 4]
-    requires { 36 ≤ length approved.now }
-    ensures { result ≡ (spec.header_of approved.now).stream.ids }
-{
-    [
-        u16::little(approved, 20) as u64,
-        u16::little(approved, 22) as u64,
-        u16::little(approved, 24) as u64,
-        u16::little(approved, 26) as u64,
-    ]
 }
 
 // The length of the image that a header says. The product of two 32-bit numbers does not wrap.
