@@ -1,8 +1,7 @@
-use Rattle.std.proofs.Common.{◌≤◌, ◌-◌, length}
+use Rattle.std.proofs.Common.{◌≡◌, List, ℕ, ◌++◌}
+use Rattle.hashes.specs.Progress.{Fed}
 use Rattle.vectors.proofs.fed.Given as goal
 
-abbrev pub invariant-loop-at : goal.invariant-loop-at
-invariant-loop-at l = l.at ≤ length l.message
-
-abbrev pub decreases-loop-at : goal.decreases-loop-at
-decreases-loop-at l = length l.message - l.at
+-- what was fed, and what is left of the message
+abbrev pub invariant-loop-piece : goal.invariant-loop-piece
+invariant-loop-piece l = (x : List ℕ) × (x ++ l.piece-iterator.rest.now ≡ l.message) × Fed l.hasher l.id x
