@@ -1,88 +1,87 @@
-// Command files, byte by byte.
+// Command files, part by part.
+use std::alloc::AllocError;
 
-// A file in the making: the first `size` of the bytes.
+// A command, or another part of a file.
 #[derive(Clone, Copy)]
-pub struct File {
-    pub bytes: [u8; 160],
-    pub size: usize,
+pub enum Part {
+    Magic,
+    // stores eight bytes at an address, 32 bytes
+    Write(u64),
+    // 40 bytes
+    Fill {
+        address: u64,
+        count: u64,
+        pattern: u64,
+    },
+    // 24 bytes
+    Entry(u64),
+    // of ECX where EAX is 7 and ECX is 1, under the mask 0x30, 104 bytes
+    Check(u32),
+    // a command's header alone: ID, and data length
+    Header(u16, u64),
+    Eight(u64),
+    Four(u32),
+    Two(u16),
+    Byte(u8),
 }
 
-impl File {
-    pub(crate) fn empty() -> File {
-        File {
-            bytes: [0u8; 160],
-            size: 0,
+impl Part {
+    // Appends the bytes of this part.
+    pub(crate) fn put(self, file: &mut Vec<u8>) -> Result<(), AllocError> {
+        match self {
+            Part::Magic => put_eights(file, &[machine::MAGIC]),
+            Part::Write(address) => {
+                put_header(file, 0, 16)?;
+                put_eights(file, &[address, 0x0807060504030201])
+            }
+            Part::Fill {
+                address,
+                count,
+                pattern,
+            } => {
+                put_header(file, 1, 24)?;
+                put_eights(file, &[address, count, pattern])
+            }
+            Part::Entry(address) => {
+                put_header(file, 2, 8)?;
+                put_eights(file, &[address])
+            }
+            Part::Check(value) => {
+                put_header(file, 3, 88)?;
+                put_fours(file, &[1, 7, value, 0x30])?;
+                put_eights(file, &[2])?;
+                file.extend_from_slice(&[b' '; 63])?;
+                // the text's zero byte
+                file.extend_from_slice(&[0])
+            }
+            Part::Header(id, length) => put_header(file, id, length),
+            Part::Eight(n) => put_eights(file, &[n]),
+            Part::Four(n) => put_fours(file, &[n]),
+            Part::Two(n) => file.extend_from_slice(&n.to_le_bytes()),
+            Part::Byte(b) => file.extend_from_slice(&[b]),
         }
-    }
-
-    pub(crate) fn magic() -> File {
-        File::empty().eight(machine::MAGIC)
-    }
-
-    // Eight bytes for an address, 32 bytes in all.
-    pub(crate) fn write(self, address: u64) -> File {
-        self.header(0, 16).eight(address).eight(0x0807060504030201)
-    }
-
-    // 40 bytes.
-    pub(crate) fn fill(self, address: u64, count: u64, pattern: u64) -> File {
-        let judged = self.header(1, 24).eight(address).eight(count);
-        judged.eight(pattern)
-    }
-
-    // 24 bytes.
-    pub(crate) fn entry(self, address: u64) -> File {
-        self.header(2, 8).eight(address)
-    }
-
-    // Of ECX where EAX is 7 and ECX is 1, under the mask 0x30, 104 bytes; the text's zero byte is its last.
-    pub(crate) fn check(self, value: u64) -> File {
-        let inputs = self.header(3, 88).four(1).four(7);
-        inputs.four(value).four(0x30).eight(2).text()
-    }
-
-    fn text(self) -> File {
-        let s = 0x2020202020202020;
-        let half = self.eight(s).eight(s).eight(s).eight(s);
-        half.eight(s).eight(s).eight(s).eight(0x20202020202020)
-    }
-
-    // ID 2, reserved 6, data length 8.
-    pub(crate) fn header(self, id: u64, length: u64) -> File {
-        self.two(id).two(0).four(0).eight(length)
-    }
-
-    // Numbers of so many bytes, lowest first.
-
-    pub(crate) fn eight(self, n: u64) -> File {
-        self.four(n).four(n / 4294967296)
-    }
-
-    pub(crate) fn four(self, n: u64) -> File {
-        self.two(n).two(n / 65536)
-    }
-
-    pub(crate) fn two(self, n: u64) -> File {
-        self.byte((n % 256) as u8).byte((n / 256 % 256) as u8)
-    }
-
-    // A full file stays as it is.
-    pub(crate) fn byte(self, b: u8) -> File {
-        let at = self.size;
-        if 160 <= at {
-            return self;
-        }
-        let mut next = self;
-        next.bytes[at] = b;
-        next.size = at + 1;
-        next
     }
 }
 
-// The first n bytes, or all.
-pub(crate) fn first(s: &[u8], n: usize) -> &[u8] {
-    if s.len() < n {
-        return s;
+// ID 2, reserved 6, data length 8.
+fn put_header(file: &mut Vec<u8>, id: u16, length: u64) -> Result<(), AllocError> {
+    file.extend_from_slice(&id.to_le_bytes())?;
+    file.extend_from_slice(&[0; 6])?;
+    put_eights(file, &[length])
+}
+
+// Numbers of eight bytes each, lowest first.
+pub(crate) fn put_eights(bytes: &mut Vec<u8>, numbers: &[u64]) -> Result<(), AllocError> {
+    for n in numbers {
+        bytes.extend_from_slice(&n.to_le_bytes())?;
     }
-    &s[0..n]
+    Ok(())
+}
+
+// The same of four bytes each.
+pub(crate) fn put_fours(bytes: &mut Vec<u8>, numbers: &[u32]) -> Result<(), AllocError> {
+    for n in numbers {
+        bytes.extend_from_slice(&n.to_le_bytes())?;
+    }
+    Ok(())
 }
