@@ -12,11 +12,8 @@ pub extern "C" fn probe_digest(id: u64, message: &[u8], out: &mut [u8]) -> u64
     ensures value { result ≡ digest_length id }
     ensures out_after { out.new ≡ written out.old (in_sixty_four (digest_of id message.now)) }
 {
-    let mut bytes = [0u8; 64];
-    let length = hashes::digest(id, message, &mut bytes) as u64;
-    if out.len() != 64 {
-        return length;
+    match out.as_mut_array::<64>() {
+        Some(out) => hashes::digest(id, message, out) as u64,
+        None => hashes::digest_length(id) as u64,
     }
-    octets::parts::copy(out, 0, &bytes);
-    length
 }
