@@ -9,7 +9,7 @@ ghost use Rattle.loader.specs.Load.{loaded};
 ghost use Rattle.machine.specs.Bare.{run_bare};
 ghost use Rattle.runnelpin.specs.Field.{field_of};
 
-// A part of a lent slice: its offset, and how many bytes it has.
+// A part of a lent slice, which C cannot be given as a slice: its offset, and how many bytes it has.
 #[repr(C)]
 #[derive(Clone, Copy)]
 pub struct Field {
@@ -72,14 +72,13 @@ pub extern "C" fn runnelpin_signature(image: &[u8], header: &[u8], signature_len
         ≡ signature_field image.now header.now signature_length }
 {
     let field = chain::open::signature_field(image, header, signature_length);
+    let start = if field.is_empty() {
+        0
+    } else {
+        header.len() as u64
+    };
     let length = field.len() as u64;
-    if length == 0 {
-        return Field { start: 0, length };
-    }
-    Field {
-        start: header.len() as u64,
-        length,
-    }
+    Field { start, length }
 }
 
 // Runs a command file that stands in no image.
