@@ -2,7 +2,7 @@
 use mathlib.Core.Path.{◌≡◌, refl, sym, ap, subst, ◌∙◌}
 use mathlib.Core.List.{List, []}
 use mathlib.Core.Logic.{◌≢◌}
-use Prim.Native.Nat.{ℕ, ◌+◌, ◌^◌, ◌≤◌, ◌<◌}
+use Prim.Native.Nat.{ℕ, ◌+◌, ◌≤◌, ◌<◌}
 use native.Mathlib.Numerals.{add-one}
 use native.Mathlib.Omega.{arith}
 use lib.ListN.{length}
@@ -10,41 +10,40 @@ use Rattle.answers.specs.Answers.{refused, record_bytes, record_length, stop_at}
 use Rattle.answers.specs.Rules.{first_broken}
 use Rattle.answers.specs.declared.Answer.{Answer}
 use Rattle.answers.specs.declared.Stop.{Stop}
-use Rattle.answers.proofs.OutcomeLaws.{after-cases}
 use Rattle.board.specs.Map.{regions, map_rules}
 use Rattle.chain.specs.Blocks.{block_code, bad_block, proved, file_up_to}
-use Rattle.chain.specs.Code.{stream_of}
-use Rattle.chain.specs.Header.{header_of}
-use Rattle.chain.specs.declared.header.Stream.{Stream as Numbers}
+use Rattle.chain.specs.Images.{approved_header}
+use Rattle.chain.specs.declared.blocks.Image.{Image}
 use Rattle.chain.proofs.BlockLaws.{proved-le, goes_on}
-use Rattle.chain.proofs.HeaderLaws.{Passed, passed, passed-passes}
-use Rattle.chain.proofs.JudgingLaws.{numbered}
+use Rattle.chain.proofs.HeaderLaws.{Passed, passed}
 use Rattle.chain.proofs.ProvingLaws.{count-is}
 use Rattle.machine.specs.ContractWords.{Ready}
-use Rattle.machine.specs.Machine.{State, Store, setting_of, run, trace, halted, stop_or, answer_of}
+use Rattle.machine.specs.Machine.{State, setting_of, run, trace, halted, stop_or, answer_of}
 use Rattle.machine.specs.Memory.{applied}
-use Rattle.machine.specs.declared.Halt.{Halt}
-use Rattle.machine.specs.declared.Halt.TheVariants.{At, Not}
+use Rattle.std.specs.Prelude.{Option, Some, None, IsSome, Result, Ok, Err, MatchResult}
+use Rattle.std.specs.Result.{IsErrAnd}
+use Rattle.std.proofs.lemmas.Result.{err_from_is_err_and}
+use Rattle.answers.specs.Codes.{number}
+use Rattle.answers.specs.declared.codes.Refusal.{Refusal}
+use Rattle.answers.proofs.ChoiceLaws.{cond-eq, cond-ne}
+use Rattle.answers.proofs.RefusalLaws.{number-positive}
 use Rattle.machine.specs.declared.Job.{Job}
 use Rattle.machine.specs.declared.Phase.{Phase}
 use Rattle.machine.specs.declared.Phase.TheVariants.{Magic, Header, Parameters, Storing, Skipping, Stopped}
 use Rattle.machine.proofs.MemoryLaws.{applied-append, length-applied}
 use Rattle.loader.proofs.Fold.{at_start, bytes_in, state-more, stores-more, stopped-answers, bad-answers}
-use Rattle.loader.proofs.LoadLaws.{ImagePassed, Taken, taken, file-short, all-stopped, load-answered}
-use Rattle.loader.specs.ContractWords.{Loadable, offer_of, Gives, BlocksGive, LoadGives}
+use Rattle.loader.proofs.LoadLaws.{ImagePassed, taken, file-short, all-stopped, load-answered}
+use Rattle.loader.specs.ContractWords.{Loadable, offer_of, BlocksGive, LoadsTo, LoadGives}
 use Rattle.loader.specs.Load.{Offer, load_rules, header, block, setting, state_after, stores_after, stores, load_answer, loaded}
 
 -- ---- whether the machine has stopped
 
-not_at : {stop : Stop} → Not ≡ At stop → ⊥
-not_at e = let z : ◌≡◌ {A = ℕ} 0 1 = cc in omega arith
-
-halted-at : (p : Phase) (stop : Stop) → halted p ≡ At stop → p ≡ Stopped stop
-halted-at Magic stop e = absurd (not_at e)
-halted-at Header stop e = absurd (not_at e)
-halted-at (Parameters k) stop e = absurd (not_at e)
-halted-at (Storing a left) stop e = absurd (not_at e)
-halted-at (Skipping left) stop e = absurd (not_at e)
+halted-at : (p : Phase) (stop : Stop) → halted p ≡ Some stop → p ≡ Stopped stop
+halted-at Magic stop e = cc
+halted-at Header stop e = cc
+halted-at (Parameters k) stop e = cc
+halted-at (Storing a left) stop e = cc
+halted-at (Skipping left) stop e = cc
 halted-at (Stopped s) stop e = cc
 
 -- ---- the loop over the blocks
@@ -78,7 +77,7 @@ module _ {o : Offer} {before memory : List ℕ} {k : ℕ} {s : State} (l : Loadi
   phase-after = ap (λ (t : State). t.phase) (sym l.state)
 
   -- the machine has stopped
-  pub stop-gives : {stop : Stop} → halted s.phase ≡ At stop → {a : Answer} → a ≡ answer_of stop s.tally → BlocksGive o before a memory
+  pub stop-gives : {stop : Stop} → halted s.phase ≡ Some stop → {a : Answer} → a ≡ answer_of stop s.tally → BlocksGive o before a memory
   stop-gives {stop} e f =
       let w = stopped-answers o k l.all stop l.among (phase-after ∙ halted-at s.phase stop e) in
       record {
@@ -86,26 +85,26 @@ module _ {o : Offer} {before memory : List ℕ} {k : ℕ} {s : State} (l : Loadi
         memory = l.stored ∙ ap (applied (regions o.map) before) (sym w.stored);
       }
 
-  -- one that has not waits for a block of an image that passed, since all of them would have stopped it
-  module _ (q : ImagePassed o) (on : halted s.phase ≡ Not) where
-    pub waits : k < (header o).stream.count
-    waits =
-        let (stop, e) = all-stopped o q in
-        let more : k ≢ (header o).stream.count =
-        (λ n. not_at (sym on ∙ ap halted (sym phase-after ∙ ap (λ (i : ℕ). (state_after o i).phase) n ∙ e))) in
-        omega (arith, l.among)
+  -- one that all blocks of an image that passed were run on has
+  pub stopped-behind : ImagePassed o → (header o).stream.count ≤ k → IsSome (halted s.phase)
+  stopped-behind q h =
+      let (stop, e) = all-stopped o q in
+      let f : k ≡ (header o).stream.count = omega (arith, l.among) in
+      subst IsSome (sym (ap halted (sym phase-after ∙ ap (λ (i : ℕ). (state_after o i).phase) f ∙ e))) refl
 
+  -- block k
+  module _ (there : k < (header o).stream.count) where
     module _ {code : ℕ} (e : code ≡ block_code (header o) (block o) k) where
-      -- that is bad
-      pub bad-gives : code ≢ 0 → {stop : Stop} → stop ≡ stop_at code (k + 1) → {a : Answer} → a ≡ answer_of stop s.tally
-          → BlocksGive o before a memory
-      bad-gives ne p f =
-          let w = bad-answers o k l.all waits (λ z. ne (e ∙ z)) in
+      -- is bad, and the machine has not stopped
+      pub bad-gives : halted s.phase ≡ None → 0 < code → {stop : Stop} → stop ≡ stop_at code (k + 1) → {a : Answer}
+          → a ≡ answer_of stop s.tally → BlocksGive o before a memory
+      bad-gives on ne p f =
+          let w = bad-answers o k l.all there (λ z. omega (arith, ne, e)) in
           record {
             answer = f
                 ∙ ap (λ (x : Stop). answer_of x s.tally) p
                 ∙ (λ i. answer_of (stop_at (e i) (add-one k i)) (l.state i).tally)
-                ∙ ap (λ (x : Halt). answer_of (stop_or (bad_block (header o) (block o) k) x) (state_after o k).tally)
+                ∙ ap (λ (x : Option Stop). answer_of (stop_or (bad_block (header o) (block o) k) x) (state_after o k).tally)
                 (sym (ap halted phase-after ∙ on))
                 ∙ sym w.answer;
             memory = l.stored ∙ ap (applied (regions o.map) before) (sym w.stored);
@@ -117,7 +116,7 @@ module _ {o : Offer} {before memory : List ℕ} {k : ℕ} {s : State} (l : Loadi
           → after ≡ applied (regions o.map) memory (trace (setting_of job o.map o.table) s bytes) → Loading o before after (k + 1) t
       loading-more z j b f g =
           record {
-            among = omega (arith, waits);
+            among = omega (arith, there);
             all = ap (proved (header o) (block o)) (add-one k) ∙ goes_on (header o) (block o) k l.all (sym e ∙ z) ∙ sym (add-one k);
             state = f
                 ∙ (λ i. run (setting_of (j i) o.map o.table) (l.state i) (b i))
@@ -130,25 +129,29 @@ module _ {o : Offer} {before memory : List ℕ} {k : ℕ} {s : State} (l : Loadi
                 ∙ ap (λ (i : ℕ). applied (regions o.map) before (stores_after o i)) (sym (add-one k));
           }
 
--- ---- what the code may ask there, by the numbers of the blocks
+-- ---- what the code may ask there, of an image that passed
 
-module _ {image approved : List ℕ} {first : ℕ} {s : Numbers} {map : List ℕ} {room : ℕ} (f : Loadable image approved first s map room) where
-  pub passing : Passed image approved (header_of approved).signature
-  passing = passed image approved (header_of approved).signature f.numbered.passes
+module _ (i : Image) where
+  pub passing : Passed i.bytes.now i.approved.now (approved_header i).signature
+  passing = passed i.bytes.now i.approved.now (approved_header i).signature i.passes
 
-  module _ {table : List ℕ} {mode : ℕ} {before memory : List ℕ} {k : ℕ} {t : State}
-      (l : Loading (offer_of image approved map table mode) before memory k t) where
-    pub comes : halted t.phase ≡ Not → k < s.count
-    comes on = subst (λ (n : ℕ). k < n) (sym (count-is f.numbered)) (waits l passing on)
+  -- the blocks that the code counts are the header's
+  pub there : {k : ℕ} → k < i.stream.count → k < (approved_header i).stream.count
+  there {k} h = subst (λ (n : ℕ). k < n) (count-is i) h
 
-    pub ready : room ≡ length before → {job : Job} → job ≡ job_of (offer_of image approved map table mode)
+  pub behind : {k : ℕ} → i.stream.count ≤ k → (approved_header i).stream.count ≤ k
+  behind {k} h = subst (λ (n : ℕ). n ≤ k) (count-is i) h
+
+  module _ {map table : List ℕ} {mode room : ℕ} {before memory : List ℕ} {k : ℕ} {t : State} (f : Loadable i map room)
+      (l : Loading (offer_of i map table mode) before memory k t) where
+    pub ready : room ≡ length before → {job : Job} → job ≡ job_of (offer_of i map table mode)
         → Ready job map table (length memory) t
     ready n e =
-        let o : Offer = offer_of image approved map table mode in
+        let o : Offer = offer_of i map table mode in
         subst (λ (j : Job). Ready j map table (length memory) t) (sym e)
         (record {
           short = file-short o passing f.short;
-          taken = subst (λ (i : ℕ). first_broken (map_rules map i) ≡ 0) (n ∙ sym (same-room l)) f.taken;
+          taken = subst (λ (n : ℕ). first_broken (map_rules map n) ≡ 0) (n ∙ sym (same-room l)) f.taken;
           reached = (file_up_to (header o).stream (block o) k, l.state);
         })
 
@@ -158,39 +161,60 @@ module _ (o : Offer) (before : List ℕ) where
   abbrev early : ℕ
   early = first_broken (load_rules o (length before))
 
-  given_by : (a : Answer) (after : List ℕ) → (early ≡ 0 → BlocksGive o before a after)
-      → (early ≢ 0 → Gives (refused early) [] o.map before a after) → LoadGives o before a after
-  given_by a after =
-      after-cases early (load_answer o) (stores o) (λ (x : Answer) (xs : List Store). Gives x xs o.map before a after)
-
   -- refused by 1 to 12
-  pub refusal-gives : {code : ℕ} → code ≡ early → code ≢ 0 → (a : Answer) → a ≡ refused code → LoadGives o before a before
+  pub loads-refused : {r : Result Answer Refusal} (why : Refusal) → IsErrAnd r (λ (d : Refusal). d ≡ why) → number why ≡ early
+      → LoadsTo o before r before
   unfolding applied
-  refusal-gives e n a f =
-      given_by a before (λ z. absurd (n (e ∙ z))) (λ m. record { answer = f ∙ ap refused e; memory = refl })
+  loads-refused {r} why h e =
+      let n : early ≢ 0 = (λ z. let p = number-positive why in omega arith) in
+      let p = err_from_is_err_and r h in
+      rw (p.1, p.2)
+      (record {
+        code = e;
+        answer = tt;
+        memory = sym (ap (applied (regions o.map) before) (cond-ne early 0 (stores o) [] n));
+      })
 
-  -- or by none of them
-  pub blocks-give : early ≡ 0 → (a : Answer) (after : List ℕ) → BlocksGive o before a after → LoadGives o before a after
-  blocks-give z a after g = given_by a after (λ e. g) (λ n. absurd (n z))
+  -- or by none of them: then the blocks are taken up
+  module _ (z : early ≡ 0) (i : Image) (e : i.bytes.now ≡ o.image) (f : i.approved.now ≡ o.approved) where
+    pub loadable : Loadable i o.map (length before)
+    loadable =
+        let t = taken o (length before) z in record { short = omega (arith, t.allowed.small, ap length e); taken = t.map }
 
-  -- then the blocks are taken up, with the numbers that the header says of them
-  module _ (z : early ≡ 0) where
-    fits : Taken o (length before)
-    fits = taken o (length before) z
-
-    pub first_fits : length o.approved + o.signature ≤ 2 ^ 30
-    first_fits =
-        omega (arith, fits.allowed.small, fits.image.exact, fits.image.sound.approved, fits.image.sound.signature)
-
-    pub loadable : {s : Numbers} → stream_of s ≡ (header o).stream
-        → Loadable o.image o.approved (length o.approved + o.signature) s o.map (length before)
-    loadable e =
+    pub loads-blocks : {a : Answer} {after : List ℕ} → BlocksGive (offer_of i o.map o.table o.mode) before a after
+        → LoadsTo o before (Ok a) after
+    loads-blocks g =
         record {
-          short = fits.allowed.small;
-          numbered = numbered o.image o.approved o.signature
-              (passed-passes o.image o.approved o.signature fits.image) e;
-          taken = fits.map;
+          code = sym z;
+          answer = g.answer
+              ∙ (λ j. load_answer (record { image = e j; approved = f j; map = o.map; table = o.table; mode = o.mode; signature = o.signature }));
+          memory = g.memory
+              ∙ (λ j. applied (regions o.map) before
+              (stores (record { image = e j; approved = f j; map = o.map; table = o.table; mode = o.mode; signature = o.signature })))
+              ∙ ap (applied (regions o.map) before) (sym (cond-eq early 0 (stores o) [] z));
         }
+
+  -- the answer of both
+  gives-refusal : {why : Refusal} {after : List ℕ} {a : Answer} → LoadsTo o before (Err why) after → a ≡ refused (number why)
+      → LoadGives o before a after
+  gives-refusal {why} q f =
+      let n : early ≢ 0 = (λ z. let p = number-positive why in let e = q.code in omega arith) in
+      record {
+        answer = f ∙ ap refused q.code ∙ sym (cond-ne early 0 (load_answer o) (refused early) n);
+        memory = q.memory;
+      }
+
+  gives-blocks : {after : List ℕ} {a : Answer} → LoadsTo o before (Ok a) after → LoadGives o before a after
+  gives-blocks q =
+      record {
+        answer = q.answer ∙ sym (cond-eq early 0 (load_answer o) (refused early) (sym q.code));
+        memory = q.memory;
+      }
+
+  pub gives-either : (r : Result Answer Refusal) {after : List ℕ} {a : Answer} → LoadsTo o before r after
+      → MatchResult r (λ (x : Answer). a ≡ x) (λ (why : Refusal). a ≡ refused (number why)) → LoadGives o before a after
+  gives-either (Ok x) {after} q f = subst (λ (y : Answer). LoadGives o before y after) (sym f) (gives-blocks q)
+  gives-either (Err why) q f = gives-refusal q f
 
   -- what it gives is written into a record of its length
   pub load-written : (old : List ℕ) → length old ≡ record_length → {a : Answer} {after : List ℕ} → LoadGives o before a after

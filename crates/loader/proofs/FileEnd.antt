@@ -4,6 +4,7 @@ use mathlib.Core.Path.{◌≡◌, sym, ap, ◌∙◌}
 use mathlib.Core.List.{List}
 use Prim.Native.Nat.{ℕ, ◌≤◌}
 use native.Mathlib.Omega.{arith}
+use Rattle.std.specs.Prelude.{Option, unwrap_or}
 use Rattle.answers.specs.Answers.{stop_at}
 use Rattle.answers.specs.Rules.{first_broken}
 use Rattle.answers.specs.declared.Answer.{Answer}
@@ -87,7 +88,7 @@ module _ (o : Offer) (memory : ℕ) where
           used = used;
           complete = ((done-exactly (setting o) (proved_bytes o)).0 e).0;
         },
-        record { command = c; last = last; entry = ap (λ (a : Answer). a.entry) l.answer ∙ entry },
+        record { command = c; last = last; entry = ap (λ (a : Answer). a.entry) l.answer ∙ ap (λ (e : Option ℕ). unwrap_or e 0) entry },
       )
 
   pub file-done : WholeFile o memory → (c : List ℕ) → LastEntry (commands_met o) c → answer_made o memory ≡ answer_at o (stop_at 0 0)

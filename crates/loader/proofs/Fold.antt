@@ -16,8 +16,7 @@ use Rattle.chain.specs.Blocks.{block_code, bad_block, proved, file_up_to, file_b
 use Rattle.chain.specs.Header.{file_length}
 use Rattle.chain.proofs.BlockLaws.{file-more, proved-le, proved-more, stops, goes_on}
 use Rattle.machine.specs.Machine.{State, Store, begun, run, trace, halted, stop_or, answer_of}
-use Rattle.machine.specs.declared.Halt.{Halt}
-use Rattle.machine.specs.declared.Halt.TheVariants.{At, Not}
+use Rattle.std.specs.Prelude.{Option, Some, None}
 use Rattle.machine.specs.declared.Phase.{Phase}
 use Rattle.machine.specs.declared.Phase.TheVariants.{Stopped}
 use Rattle.machine.proofs.Runs.{run-append, trace-append, run-stopped, trace-stopped}
@@ -113,9 +112,9 @@ abbrev pub ends : Stop → State → Followed
 ends stop s = record { answer = answer_of stop s.tally; stores = [] }
 
 -- a machine that has stopped looks at no block
-abbrev pub unless_halted : Halt → State → Followed → Followed
-unless_halted (At stop) s next = ends stop s
-unless_halted Not s next = next
+abbrev pub unless_halted : Option Stop → State → Followed → Followed
+unless_halted (Some stop) s next = ends stop s
+unless_halted None s next = next
 
 -- From block k on, with so many blocks left and the machine at s: a block is looked at only if the machine has not stopped; if
 -- it is proved its file bytes are run, and then the next one is looked at. All blocks always stop the machine; a run that
@@ -173,7 +172,7 @@ module _ (o : Offer) (q : ImagePassed o) where
           record {
             answer = sym
                 (a.answer
-                ∙ ap (λ (h : Halt). answer_of (stop_or (bad_block (header o) (block o) k) h) s.tally) (running-on s.phase r));
+                ∙ ap (λ (h : Option Stop). answer_of (stop_or (bad_block (header o) (block o) k) h) s.tally) (running-on s.phase r));
             stored = append-nil (stores_after o k) ∙ sym a.stored;
           }
 
@@ -197,7 +196,7 @@ module _ (o : Offer) (q : ImagePassed o) where
           → Follows k (unless_halted (halted s.phase) s looked)
       by-phase below (inr (stop, end)) = stopped-follows k looked all (omega arith) end
       by-phase below (inl r) =
-          subst (λ (h : Halt). Follows k (unless_halted h s looked)) (sym (running-on s.phase r))
+          subst (λ (h : Option Stop). Follows k (unless_halted h s looked)) (sym (running-on s.phase r))
           (cond_cases (Follows k) (eqb code 0) _ _ (λ z. good below (eqb-true code 0 z)) (λ z. bad r (eqb-false code 0 z)))
 
   -- Load's answer and stores are those of the fold over all blocks.

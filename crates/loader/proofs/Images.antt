@@ -9,6 +9,7 @@ use native.Mathlib.Omega.{arith}
 use borrow.Author.Tests.{eqb-true, eqb-false}
 use lib.Dec.{eqb}
 use lib.ListN.{length, take, drop, take-append-drop}
+use Rattle.std.specs.Prelude.{unwrap_or}
 use Rattle.answers.specs.Answers.{Outcome, answered, answer_after, written_after, refused, stop_at}
 use Rattle.answers.specs.Rules.{Rule, first_broken, signature_rules, size_rules}
 use Rattle.answers.specs.declared.Answer.{Answer}
@@ -166,8 +167,8 @@ module _ (approved map table : List ℕ) (mode signature : ℕ) where
             split = stores-split;
             done = λ z. (
               trace-stopped on (ran on bytes₂) behind e,
-              ap (λ (c : ℕ). cond (eqb c 0) (ran on bytes₂).tally.entry 0) z
-                  ∙ sym (ap (λ (s : State). s.tally.entry) (ends_on ∙ run-stopped on (ran on bytes₂) behind e))
+              ap (λ (c : ℕ). cond (eqb c 0) (unwrap_or (ran on bytes₂).tally.entry 0) 0) z
+                  ∙ sym (ap (λ (s : State). unwrap_or s.tally.entry 0) (ends_on ∙ run-stopped on (ran on bytes₂) behind e))
                   ∙ sym (ap (λ (x : Answer). x.entry) first.answer),
             );
           }

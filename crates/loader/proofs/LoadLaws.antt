@@ -23,8 +23,7 @@ use Rattle.chain.proofs.BlockLaws.{proved-le, fails, length-file}
 use Rattle.chain.proofs.HeaderLaws.{Allowed, allowed, allowed-passes, Passed, passed, passed-passes, whole-block, block_data}
 use Rattle.machine.specs.Machine.{Store, halted, stop_or, answer_of}
 use Rattle.machine.specs.Memory.{applied}
-use Rattle.machine.specs.declared.Halt.{Halt}
-use Rattle.machine.specs.declared.Halt.TheVariants.{Not}
+use Rattle.std.specs.Prelude.{Option, None}
 use Rattle.machine.specs.declared.Phase.{Phase}
 use Rattle.machine.specs.declared.Phase.TheVariants.{Magic, Header, Parameters, Storing, Skipping, Stopped}
 use Rattle.machine.proofs.ReachedLaws.{reached-ended, whole-stopped}
@@ -122,7 +121,7 @@ module _ (o : Offer) (memory old : List ℕ) where
 -- ---- the three ways that load goes
 
 -- a run that has not stopped
-pub running-on : (p : Phase) → Running p → halted p ≡ Not
+pub running-on : (p : Phase) → Running p → halted p ≡ None
 running-on Magic r = refl
 running-on Header r = refl
 running-on (Parameters k) r = refl
@@ -151,7 +150,7 @@ module _ (o : Offer) where
           → ((stop : Stop) × ((ended o).phase ≡ Stopped stop) × (load_answer o ≡ answer_at stop))
           ⊎ (Running (ended o).phase × (load_answer o ≡ answer_at first_bad))
       go (inr (stop, e)) = inl (stop, e, ap (λ (p : Phase). answer_at (stop_or first_bad (halted p))) e)
-      go (inl r) = inr (r, ap (λ (h : Halt). answer_at (stop_or first_bad h)) (running-on (ended o).phase r))
+      go (inl r) = inr (r, ap (λ (h : Option Stop). answer_at (stop_or first_bad h)) (running-on (ended o).phase r))
 
   -- the answer of a machine that has stopped, where 1 to 12 are not given
   pub stopped-answer : (memory : ℕ) {stop : Stop} → first_broken (load_rules o memory) ≡ 0 → (ended o).phase ≡ Stopped stop

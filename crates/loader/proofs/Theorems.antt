@@ -9,6 +9,7 @@ use native.Mathlib.Omega.{arith}
 use borrow.Author.Tests.{ne_eqb, le-leb, lt-leb}
 use lib.Dec.{T, leb, lit≤}
 use lib.ListN.{length, get_or, take}
+use Rattle.std.specs.Prelude.{unwrap_or}
 use Rattle.octets.specs.Parts.{put}
 use Rattle.answers.specs.Answers.{Outcome, refused, record_bytes, record_length, stop_at}
 use Rattle.answers.specs.Rules.{first_broken}
@@ -163,8 +164,8 @@ module _ (o : Offer) where
   pub refusal-has-no-entry : (memory : ℕ) → (answer_made o memory).code ≢ 0 → (answer_made o memory).entry ≡ 0
   refusal-has-no-entry memory =
       load-cases o (λ (a : Answer) (xs : List Store). a.code ≢ 0 → a.entry ≡ 0) memory (λ code l u n. refl)
-      (λ t stop e q n. ap (λ (b : Bool). cond b (ended o).tally.entry 0) (ne_eqb stop.code 0 n))
-      (λ t s r l u n. ap (λ (b : Bool). cond b (ended o).tally.entry 0) (ne_eqb (bad_code o) 0 n))
+      (λ t stop e q n. ap (λ (b : Bool). cond b (unwrap_or (ended o).tally.entry 0) 0) (ne_eqb stop.code 0 n))
+      (λ t s r l u n. ap (λ (b : Bool). cond b (unwrap_or (ended o).tally.entry 0) 0) (ne_eqb (bad_code o) 0 n))
 
   -- Place is the block number from 1 for 13 to 15, that of the first block that is not proved; the file offset of the
   -- command's first byte for 17 to 26, behind the magic and the commands done; the file length for 27; else 0.

@@ -1,84 +1,49 @@
-use Rattle.std.proofs.Common.{refl, sym, ap, ◌∙◌, ℕ, ◌<◌, arith}
-use Rattle.chain.specs.Code.{stream_of}
+use Rattle.std.proofs.Common.{refl, sym, ap, subst, ◌∙◌, ℕ}
+use Rattle.std.specs.Prelude.{IsSome}
+use Rattle.answers.proofs.RefusalLaws.{number-positive}
 use Rattle.chain.specs.Header.{file_length}
-use Rattle.chain.proofs.ProvingLaws.{sized, image-fits, block-fits, data-fits, bytes-are}
+use Rattle.chain.proofs.ProvingLaws.{sized}
 use Rattle.machine.specs.Machine.{begun}
 use Rattle.loader.specs.ContractWords.{offer_of}
-use Rattle.loader.proofs.CodeLaws.{loading-none, same-room, stop-gives, bad-gives, loading-more, passing, comes, ready}
+use Rattle.loader.proofs.CodeLaws.{loading-none, stop-gives, stopped-behind, bad-gives, loading-more, passing, there, behind, ready}
 use Rattle.loader.proofs.load_blocks.Goals as goal
 
 pub file_length-length-requires : goal.file_length-length-requires
-file_length-length-requires c = sized c.requires.numbered
+file_length-length-requires c = sized c.args.image
 
-pub loop-stop-init : goal.loop-stop-init
-loop-stop-init c =
+pub loop-k-init : goal.loop-k-init
+loop-k-init c =
     let a = c.args in
-    let e = c.file_length-length.ensures ∙ ap file_length c.requires.numbered.stream in (
+    let e = c.file_length-length.ensures ∙ ap file_length a.image.numbers in (
       ap (λ (n : ℕ). record { length = n; mode = a.mode }) e,
-      loading-none (offer_of a.image.now a.approved.now a.map.now a.table.now a.mode) a.memory.now (c.begin-m.ensures ∙ ap begun e),
+      loading-none (offer_of a.image a.map.now a.table.now a.mode) a.memory.now (c.begin-m.ensures ∙ ap begun e),
     )
 
-pub shape_of-memory-in-At : goal.shape_of-memory-in-At
-shape_of-memory-in-At c = same-room c.loop-stop.invariant.1
+pub returns-in-Some : goal.returns-in-Some
+returns-in-Some c = stop-gives c.loop-k.invariant.1 (sym c.halted.ensures ∙ c.in-Some.is) c.answered.ensures
 
-pub returns-in-At : goal.returns-in-At
-returns-in-At c = stop-gives c.loop-stop.invariant.1 (sym c.halted-halt.ensures ∙ c.in-At.is) c.answered.ensures
-
--- from here on the machine has not stopped, and so waits for block k
-
-pub code_at-code-requires : goal.code_at-code-requires
-code_at-code-requires c =
-    (c.requires.numbered, comes c.requires c.loop-stop.invariant.1 (sym c.halted-halt.ensures ∙ c.in_default.is))
-
-pub overflow_add-k : goal.overflow_add-k
-overflow_add-k c =
-    let there : c.loop-stop.k < c.args.stream.count =
-    comes c.requires c.loop-stop.invariant.1 (sym c.halted-halt.ensures ∙ c.in_default.is) in
-    omega arith
-
-pub shape_of-memory-then-code-ne-DONE : goal.shape_of-memory-then-code-ne-DONE
-shape_of-memory-then-code-ne-DONE c = omega (arith, same-room c.loop-stop.invariant.1)
-
-pub returns-then-code-ne-DONE : goal.returns-then-code-ne-DONE
-returns-then-code-ne-DONE c =
-    bad-gives c.loop-stop.invariant.1 (passing c.requires) (sym c.halted-halt.ensures ∙ c.in_default.is) c.code_at-code.ensures
-    c.if-code-ne-DONE.true c.stop_at.ensures c.answered-then-code-ne-DONE.ensures
-
-pub block-block-requires : goal.block-block-requires
-block-block-requires c =
-    let a = c.args in
-    block-fits a.image.now a.first (stream_of a.stream) (image-fits c.requires.numbered) c.loop-stop.k
-    (comes c.requires c.loop-stop.invariant.1 (sym c.halted-halt.ensures ∙ c.in_default.is))
-
-pub file_bytes-bytes-requires : goal.file_bytes-bytes-requires
-file_bytes-bytes-requires c =
-    let a = c.args in
-    let n = c.requires.numbered in
-    data-fits a.image.now a.first (stream_of a.stream) (image-fits n) c.loop-stop.k
-    (comes c.requires c.loop-stop.invariant.1 (sym c.halted-halt.ensures ∙ c.in_default.is)) (sized n) c.block-block.ensures
+pub returns-in-Err : goal.returns-in-Err
+returns-in-Err c =
+    bad-gives c.loop-k.invariant.1 (there c.args.image c.loop-k-test.true) c.in-Err.ensures (sym c.halted.ensures ∙ c.in_default.is)
+    (number-positive c.in-Err.why) c.refused.ensures c.answered-in-Err.ensures
 
 pub take_piece-m-requires : goal.take_piece-m-requires
-take_piece-m-requires c = ready c.requires c.loop-stop.invariant.1 refl c.loop-stop.invariant.0
+take_piece-m-requires c = ready c.args.image c.requires c.loop-k.invariant.1 refl c.loop-k.invariant.0
 
-pub overflow_add-k-in-loop-stop : goal.overflow_add-k-in-loop-stop
-overflow_add-k-in-loop-stop c =
-    let there : c.loop-stop.k < c.args.stream.count =
-    comes c.requires c.loop-stop.invariant.1 (sym c.halted-halt.ensures ∙ c.in_default.is) in
-    omega arith
-
-pub loop-stop-smaller : goal.loop-stop-smaller
-loop-stop-smaller c =
-    let there : c.loop-stop.k < c.args.stream.count =
-    comes c.requires c.loop-stop.invariant.1 (sym c.halted-halt.ensures ∙ c.in_default.is) in
-    omega arith
-
-pub loop-stop-preserved : goal.loop-stop-preserved
-loop-stop-preserved c = (
-  c.loop-stop.invariant.0,
-  loading-more c.loop-stop.invariant.1 (passing c.requires) (sym c.halted-halt.ensures ∙ c.in_default.is) c.code_at-code.ensures
-      c.if-code-ne-DONE.false
-      c.loop-stop.invariant.0
-      (c.file_bytes-bytes.ensures ∙ bytes-are c.requires.numbered c.loop-stop.k _ c.block-block.ensures)
+pub loop-k-preserved : goal.loop-k-preserved
+loop-k-preserved c = (
+  c.loop-k.invariant.0,
+  loading-more c.loop-k.invariant.1 (there c.args.image c.loop-k-test.true) c.in_default-judged_at.ensures refl
+      c.loop-k.invariant.0
+      c.file_bytes.ensures
       c.take_piece-m.ensures.0
       c.take_piece-m.ensures.1,
 )
+
+pub unwrap-requires : goal.unwrap-requires
+unwrap-requires c =
+    subst IsSome (sym c.halted-2.ensures)
+    (stopped-behind c.loop-k.invariant.1 (passing c.args.image) (behind c.args.image c.loop-k-test.false))
+
+pub returns : goal.returns
+returns c = stop-gives c.loop-k.invariant.1 (sym c.halted-2.ensures ∙ c.unwrap.ensures) c.answered-2.ensures
