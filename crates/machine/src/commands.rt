@@ -163,7 +163,7 @@ fn judge_found(found: Option<u32>, mask: u32, value: u32) -> Result<(), Refusal>
     Ok(())
 }
 
-// Whether a zero byte is somewhere in the text. FORMAT's rules ask for this loop, which gives the answer by `break`.
+// Whether a zero byte is somewhere in the text. The customer gave the form: a loop that answers by `break` (docs/PROMISES.md).
 fn has_zero(text: &[u8]) -> bool
     ensures { result ≡ spec.has_zero text.now }
 {
