@@ -32,7 +32,7 @@ pub fn is_available(table: &[u8]) -> bool
     !records(table).is_empty()
 }
 
-// What the result register holds in the record that has both inputs.
+// What the result register holds in the record that has both inputs. Its number stays one: the promise is for every one.
 #[tactic(auto, using(crate::proofs::WalkLaws::record_by_record), unfolding(crate::specs::Cpuid::lookup))]
 pub fn lookup(table: &[u8], eax: u32, ecx: u32, register: u64) -> Option<u32>
     ensures { result ≡ spec.lookup (spec.leaves table.now) eax ecx register }

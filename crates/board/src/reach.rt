@@ -5,7 +5,7 @@ ghost use Rattle.board.specs.Reach.{mode_rules, limit, reachable};
 
 use answers::codes::Refusal;
 
-// Mode is 32 or 64.
+// Mode is 32 or 64. It stays a number: C gives it, and `machine::take_piece` promises for every one.
 pub fn judge_mode(mode: u64) -> Result<(), Refusal>
     ensures { code_of result ≡ first_broken (mode_rules mode) }
 {

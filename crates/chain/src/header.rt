@@ -96,7 +96,8 @@ fn stream_of(approved: &[u8]) -> Stream
     }
 }
 
-// The length of the image that a header says. The product of two 32-bit numbers does not wrap.
+// The length of the image that a header says. The product of two 32-bit numbers does not wrap. The block size is bounded
+// here and not in a type: a header is judged with any.
 pub fn image_length(h: Header) -> u64
     requires { h.stream.block_size ≤ 1048576 }
     ensures { result ≡ spec.image_length (header_with h []) }

@@ -219,7 +219,8 @@ fn put_data(file: &[u8], h: Header, k: u64, at: usize, output: &mut [u8])
     parts::copy(output, data, &file[from..from + n]);
 }
 
-// The header's fields, in front of the root hash.
+// The header's fields, in front of the root hash. That 36 bytes are there is asked of the whole output: with an array of
+// 36 in its place the promise on the output would need the rest again.
 fn put_fields(h: Header, output: &mut [u8])
     requires { (36 ≤ length output.old) × (length h.stream.ids ≡ 4) × ((i : ℕ) → get_or h.stream.ids i 0 < 65536) }
     ensures { output.new ≡ put output.old 0 (header_bytes (header_with h [])) }

@@ -95,7 +95,7 @@ pub struct Control {
 }
 
 // Where a run stands between two pieces: these bytes are the first `kept` of `gathered`, which are not copied at each
-// step of a piece.
+// step of a piece. An array and no list, since memory is fixed.
 #[derive(Clone, Copy)]
 pub struct Machine {
     pub control: Control,
