@@ -34,7 +34,8 @@ const REGISTER: usize = 32;
 
 const TEXT: usize = 40;
 
-// What an ID names: the IDs are those of table 1.
+// What an ID names: the IDs are those of table 1. One match on the number is the form that the customer's document
+// asks for.
 pub fn named(id: u16) -> Named
     ensures { result ≡ spec.named id }
 {
@@ -163,7 +164,8 @@ fn judge_found(found: Option<u32>, mask: u32, value: u32) -> Result<(), Refusal>
     Ok(())
 }
 
-// Whether a zero byte is somewhere in the text. The customer gave the form: a loop that answers by `break` (docs/PROMISES.md).
+// Whether a zero byte is somewhere in the text. A loop that gives it by `break` is the form that the customer's document
+// asks for.
 fn has_zero(text: &[u8]) -> bool
     ensures { result ≡ spec.has_zero text.now }
 {

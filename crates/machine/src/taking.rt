@@ -13,7 +13,7 @@ use octets::parts;
 use std::cmp::min;
 
 // What the bytes of a piece do. The outer loop has a turn for each command, and one for the magic, which is no command;
-// the inner one takes its bytes. Both are left where the piece is used up.
+// the inner one takes its bytes. Both are left where the piece is used up, by a label, as the customer's document asks.
 pub fn take_all(
     c: Control,
     gathered: &mut [u8],
