@@ -29,10 +29,10 @@ impl Part {
     // Appends the bytes of this part.
     pub(crate) fn put(self, file: &mut Vec<u8>) -> Result<(), AllocError> {
         match self {
-            Part::Magic => put_eights(file, &[machine::MAGIC]),
+            Part::Magic => file.extend_from_slice(&machine::MAGIC.to_le_bytes()),
             Part::Write(address) => {
                 put_header(file, 0, 16)?;
-                put_eights(file, &[address, 0x0807060504030201])
+                put_all(file, &[address, 0x0807060504030201].map(u64::to_le_bytes))
             }
             Part::Fill {
                 address,
@@ -40,23 +40,23 @@ impl Part {
                 pattern,
             } => {
                 put_header(file, 1, 24)?;
-                put_eights(file, &[address, count, pattern])
+                put_all(file, &[address, count, pattern].map(u64::to_le_bytes))
             }
             Part::Entry(address) => {
                 put_header(file, 2, 8)?;
-                put_eights(file, &[address])
+                file.extend_from_slice(&address.to_le_bytes())
             }
             Part::Check(value) => {
                 put_header(file, 3, 88)?;
-                put_fours(file, &[1, 7, value, 0x30])?;
-                put_eights(file, &[2])?;
+                put_all(file, &[1, 7, value, 0x30].map(u32::to_le_bytes))?;
+                file.extend_from_slice(&2u64.to_le_bytes())?;
                 file.extend_from_slice(&[b' '; 63])?;
                 // the text's zero byte
                 file.extend_from_slice(&[0])
             }
             Part::Header(id, length) => put_header(file, id, length),
-            Part::Eight(n) => put_eights(file, &[n]),
-            Part::Four(n) => put_fours(file, &[n]),
+            Part::Eight(n) => file.extend_from_slice(&n.to_le_bytes()),
+            Part::Four(n) => file.extend_from_slice(&n.to_le_bytes()),
             Part::Two(n) => file.extend_from_slice(&n.to_le_bytes()),
             Part::Byte(b) => file.extend_from_slice(&[b]),
         }
@@ -67,21 +67,10 @@ impl Part {
 fn put_header(file: &mut Vec<u8>, id: u16, length: u64) -> Result<(), AllocError> {
     file.extend_from_slice(&id.to_le_bytes())?;
     file.extend_from_slice(&[0; 6])?;
-    put_eights(file, &[length])
+    file.extend_from_slice(&length.to_le_bytes())
 }
 
-// Numbers of eight bytes each, lowest first.
-pub(crate) fn put_eights(bytes: &mut Vec<u8>, numbers: &[u64]) -> Result<(), AllocError> {
-    for n in numbers {
-        bytes.extend_from_slice(&n.to_le_bytes())?;
-    }
-    Ok(())
-}
-
-// The same of four bytes each.
-pub(crate) fn put_fours(bytes: &mut Vec<u8>, numbers: &[u32]) -> Result<(), AllocError> {
-    for n in numbers {
-        bytes.extend_from_slice(&n.to_le_bytes())?;
-    }
-    Ok(())
+// Numbers, by the bytes of each.
+fn put_all<const N: usize>(file: &mut Vec<u8>, numbers: &[[u8; N]]) -> Result<(), AllocError> {
+    file.extend_from_slice(numbers.as_flattened())
 }

@@ -1,5 +1,4 @@
 // The unit that the files are run on.
-use crate::files;
 use std::alloc::{AllocError, Global};
 
 pub const MODE: u64 = 64;
@@ -15,12 +14,12 @@ pub struct Unit {
 
 impl Unit {
     pub(crate) fn new(alloc: Global) -> Result<Unit, AllocError> {
-        let mut map = Vec::new(alloc);
         // the first two regions touch
-        files::put_eights(&mut map, &[0x1000, 16, 0x1010, 16, 0x3000, 16])?;
-        let mut table = Vec::new(alloc);
+        let regions = [0x1000, 16, 0x1010, 16, 0x3000, 16].map(u64::to_le_bytes);
         // EAX, ECX, and the four registers that they give
-        files::put_fours(&mut table, &[0, 0, 1, 2, 3, 4, 7, 1, 5, 6, 0xf0, 8])?;
+        let leaves = [0, 0, 1, 2, 3, 4, 7, 1, 5, 6, 0xf0, 8].map(u32::to_le_bytes);
+        let map = regions.as_flattened().to_vec(alloc)?;
+        let table = leaves.as_flattened().to_vec(alloc)?;
         Ok(Unit { map, table })
     }
 }
