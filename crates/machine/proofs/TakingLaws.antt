@@ -31,7 +31,6 @@ use Rattle.machine.specs.ContractWords.{
   phase_of,
   awaited,
   says,
-  Gathered,
   Passed,
   Stores,
 }
@@ -100,10 +99,10 @@ pub record Awaits (all : ℕ) (c : Control) (gathered : List ℕ) (file_length :
   pub counts : Roomy c file_length
 
 -- what each phase may ask of a state that a run comes to
-module _ {job : Job} {map table : List ℕ} {memory : ℕ} (c : Control) (g : List ℕ) (room : length g ≡ 104)
+module _ {job : Job} {map table : List ℕ} {memory : ℕ} (c : Control) (g : List ℕ)
     (r : Ready job map table memory (state_of c g)) where
-  pub awaits : (w : Awaited) → c.phase ≡ phase_of w → Awaits (awaited w) c g job.length
-  awaits Awaited.Magic e =
+  pub awaits : length g ≡ 104 → (w : Awaited) → c.phase ≡ phase_of w → Awaits (awaited w) c g job.length
+  awaits room Awaited.Magic e =
       let m = ready-meant r e in
       let n = length-take c.kept g in
       record {
@@ -114,7 +113,7 @@ module _ {job : Job} {map table : List ℕ} {memory : ℕ} (c : Control) (g : Li
         ahead = omega (arith, m.0, m.1, m.2, n);
         counts = ready-room r c (omega (arith, m.1, m.2)) refl;
       }
-  awaits Awaited.Header e =
+  awaits room Awaited.Header e =
       let m = ready-meant r e in
       let n = length-take c.kept g in
       record {
@@ -125,7 +124,7 @@ module _ {job : Job} {map table : List ℕ} {memory : ℕ} (c : Control) (g : Li
         ahead = omega (arith, m.0, m.1, m.2, n);
         counts = ready-room r c (omega (arith, m.0, m.1, m.2)) refl;
       }
-  awaits (Awaited.Parameters k) e =
+  awaits room (Awaited.Parameters k) e =
       let m = ready-meant r e in
       let n = length-take c.kept g in
       let few = judged-few k in
@@ -186,11 +185,11 @@ module _ {all : ℕ} {c : Control} {g rest : List ℕ} {file_length : ℕ} {r : 
   together = rw length-append (omega (arith, gathered-long a, length-take n rest, k.many))
 
   -- when all are there they can be read
-  pub all_there : all ≤ r.kept → length h ≡ length g → Gathered all r h × Roomy r file_length
-  all_there w l =
+  pub all_there : all ≤ r.kept → (r.kept ≡ all) × Roomy r file_length
+  all_there w =
       let next : r.next ≡ c.next + length (take n rest) = ap (λ (s : State). s.next) k.state in
       let tally : r.tally ≡ c.tally = ap (λ (s : State). s.tally) k.state in (
-        record { room = l ∙ a.room; kept = omega (arith, k.kept, k.many, a.missing, w) },
+        omega (arith, k.kept, k.many, a.missing, w),
         record {
           inside = omega (arith, next, length-take n rest, k.many, a.missing, a.ahead);
           commands = rw tally a.counts.commands;
@@ -342,30 +341,27 @@ module _ (on : Setting) (map : List Region) (piece : List ℕ) {s₀ : State} {m
 
 -- what holds at the head of both loops over a piece, which began in the state of s₀ and gathered₀ with memory₀
 pub record Going (job : Job) (map table piece gathered₀ memory₀ : List ℕ) (s₀ : Control) (gathered memory : List ℕ) (s : Control) (at : ℕ) : Type 0 where
-  pub long : length gathered ≡ 104
   pub same_memory : length memory ≡ length memory₀
   pub within : at ≤ length piece
   pub ready : Ready job map table (length memory) (state_of s gathered)
   pub left : Left (setting_of job map table) (regions map) piece (state_of s₀ gathered₀) memory₀ (state_of s gathered) memory at
 
-pub going_start : {job : Job} {map table piece gathered memory : List ℕ} {s : Control} → length gathered ≡ 104
+pub going_start : {job : Job} {map table piece gathered memory : List ℕ} {s : Control}
     → Ready job map table (length memory) (state_of s gathered) → Going job map table piece gathered memory s gathered memory s 0
-going_start l r =
-    record { long = l; same_memory = refl; within = omega arith; ready = r; left = record { state = refl; memory = refl } }
+going_start r =
+    record { same_memory = refl; within = omega arith; ready = r; left = record { state = refl; memory = refl } }
 
 module _ {job : Job} {map table piece gathered₀ memory₀ : List ℕ} {s₀ : Control} {gathered memory : List ℕ} {s : Control} {at : ℕ}
     (g : Going job map table piece gathered₀ memory₀ s₀ gathered memory s at) where
   -- some bytes are taken, of the rest as the code lends it
   pub going_on : {rest gathered₁ memory₁ : List ℕ} {t : Control} {n : ℕ} → rest ≡ drop at piece
       → Used (setting_of job map table) (state_of s gathered) rest n (state_of t gathered₁) (regions map) memory memory₁
-      → length gathered₁ ≡ length gathered → length memory₁ ≡ length memory
-      → Going job map table piece gathered₀ memory₀ s₀ gathered₁ memory₁ t (at + n)
-  going_on {rest} {gathered₁} {memory₁} {t} {n} e u lg lm =
+      → length memory₁ ≡ length memory → Going job map table piece gathered₀ memory₀ s₀ gathered₁ memory₁ t (at + n)
+  going_on {rest} {gathered₁} {memory₁} {t} {n} e u lm =
       let on = setting_of job map table in
       let v : Used on (state_of s gathered) (drop at piece) n (state_of t gathered₁) (regions map) memory memory₁ =
       subst (λ (xs : List ℕ). Used on (state_of s gathered) xs n (state_of t gathered₁) (regions map) memory memory₁) e u in
       record {
-        long = lg ∙ g.long;
         same_memory = lm ∙ g.same_memory;
         within = omega (arith, g.within, v.within, length-drop at piece);
         ready =

@@ -125,8 +125,8 @@ pub record Gathers (all : ℕ) (c : Control) (gathered rest : List ℕ) (r : Con
 
 -- ---- what they may ask
 
--- Lent, Roomy and Gathered stand in the contracts and in no struct: each speaks of a control, of gathered bytes or of memory
--- that the run changes, so a struct that carried it would be taken apart and made again at each step.
+-- Lent and Roomy stand in the contracts and in no struct: each speaks of a control or of memory that the run changes, so a
+-- struct that carried it would be taken apart and made again at each step.
 
 -- a file that is not too long, a map that is taken with this much memory, and a state that begin and earlier pieces give
 pub record Ready (job : Job) (map table : List ℕ) (memory : ℕ) (s : State) : Type 0 where
@@ -144,11 +144,6 @@ pub record Roomy (c : Control) (file_length : ℕ) : Type 0 where
   pub inside : c.next ≤ file_length
   pub commands : c.tally.commands + 1 < 2 ^ 64
   pub stored : c.tally.stored + 2 ^ 32 < 2 ^ 64
-
--- `all` bytes are there
-pub record Gathered (all : ℕ) (c : Control) (gathered : List ℕ) : Type 0 where
-  pub room : length gathered ≡ 104
-  pub kept : c.kept ≡ all
 
 -- of a command's parameters: its length has passed
 abbrev pub Passed : Awaited → State → Type 0

@@ -1,5 +1,5 @@
 // What a command is judged by: its ID, its data length, its range, its check.
-ghost use Rattle.std.specs.Prelude.{◌≡◌, length};
+ghost use Rattle.std.specs.Prelude.{◌≡◌};
 ghost use Rattle.answers.specs.Codes.{code_of};
 ghost use Rattle.answers.specs.Rules.{first_broken};
 ghost use Rattle.board.specs.Cpuid.{leaves, lookup};
@@ -7,7 +7,7 @@ ghost use Rattle.board.specs.Map.{regions};
 ghost use Rattle.board.specs.Reach.{limit, reachable};
 ghost use Rattle.machine.specs.Commands as spec;
 
-use crate::{Command, Named};
+use crate::{Command, GATHERED, Named};
 use answers::codes::Refusal;
 use board::map::Map;
 use board::{cpuid, reach};
@@ -125,11 +125,10 @@ fn reaches(mode: u64, a: u64, n: u64) -> bool
 
 // What a check, whose bytes from its first one on are `c`, is judged by. Out of line: the loop over a piece is faster so.
 #[inline(never)]
-pub fn judge_check(c: &[u8], table: &[u8]) -> Result<(), Refusal>
-    requires { length c.now ≡ 104 }
+pub fn judge_check(c: &[u8; GATHERED], table: &[u8]) -> Result<(), Refusal>
     ensures { code_of result ≡ first_broken (spec.check_rules (leaves table.now) c.now) }
 {
-    if !has_zero(&c[TEXT..crate::GATHERED]) {
+    if !has_zero(&c[TEXT..GATHERED]) {
         return Err(Refusal::Text);
     }
     if !cpuid::is_available(table) {
@@ -143,8 +142,7 @@ pub fn judge_check(c: &[u8], table: &[u8]) -> Result<(), Refusal>
 }
 
 // What the result register of a check holds, if there is such a record.
-fn looked_up(c: &[u8], table: &[u8]) -> Option<u32>
-    requires { length c.now ≡ 104 }
+fn looked_up(c: &[u8; GATHERED], table: &[u8]) -> Option<u32>
     ensures { result ≡ lookup (leaves table.now) (spec.eax c.now) (spec.ecx c.now)
         (spec.result_register c.now) }
 {

@@ -6,10 +6,12 @@ ghost use Rattle.board.specs.Map.{regions};
 ghost use Rattle.machine.specs.Code.{state_of};
 ghost use Rattle.machine.specs.Commands.{data_length, judged_bytes, wrong_length};
 ghost use Rattle.machine.specs.ContractWords as contract;
-ghost use Rattle.machine.specs.ContractWords.{Steps, Says, Roomy, Lent, Gathered, Passed, Done, after, says, held, data_used};
+ghost use Rattle.machine.specs.ContractWords.{Steps, Says, Roomy, Lent, Passed, Done, after, says, held, data_used};
 ghost use Rattle.machine.specs.Machine as spec;
 
-use crate::{Awaited, Command, Control, Job, Named, Phase, Setting, Tally, commands, memory};
+use crate::{
+    Awaited, Command, Control, GATHERED, Job, Named, Phase, Setting, Tally, commands, memory,
+};
 use answers::Stop;
 use answers::codes::Refusal;
 use octets::numbers::Number;
@@ -117,8 +119,14 @@ pub fn awaited(what: Awaited) -> u64
 }
 
 // All that are awaited are there.
-pub fn read(c: Control, what: Awaited, gathered: &[u8], on: Setting, memory: &mut [u8]) -> Control
-    requires { Gathered (contract.awaited what) c gathered.now × Passed what (state_of c gathered.now)
+pub fn read(
+    c: Control,
+    what: Awaited,
+    gathered: &[u8; GATHERED],
+    on: Setting,
+    memory: &mut [u8],
+) -> Control
+    requires { (c.kept ≡ contract.awaited what) × Passed what (state_of c gathered.now)
         × Roomy c on.job.length × Lent on.map.bytes.now (length memory.old) }
     ensures { Done (says what (held on.entry) (state_of c gathered.now)) (state_of result gathered.now)
         (regions on.entry.map.bytes.now) memory.old memory.new }
@@ -133,11 +141,11 @@ pub fn read(c: Control, what: Awaited, gathered: &[u8], on: Setting, memory: &mu
 fn judged(
     c: Control,
     what: Awaited,
-    gathered: &[u8],
+    gathered: &[u8; GATHERED],
     on: Setting,
     memory: &mut [u8],
 ) -> Result<Control, Refusal>
-    requires { Gathered (contract.awaited what) c gathered.now × Passed what (state_of c gathered.now)
+    requires { (c.kept ≡ contract.awaited what) × Passed what (state_of c gathered.now)
         × Roomy c on.job.length × Lent on.map.bytes.now (length memory.old) }
     ensures { Done (says what (held on.entry) (state_of c gathered.now)) (after c result gathered.now)
         (regions on.entry.map.bytes.now) memory.old memory.new }
@@ -150,8 +158,8 @@ fn judged(
 }
 
 // The magic is judged when its 8 bytes are there.
-fn magic_read(c: Control, gathered: &[u8], length: u64) -> Control
-    requires { Gathered 8 c gathered.now × Roomy c length }
+fn magic_read(c: Control, gathered: &[u8; GATHERED], length: u64) -> Control
+    requires { (c.kept ≡ 8) × Roomy c length }
     ensures { spec.magic_read length (state_of c gathered.now) ≡ spec.no_stores (state_of result gathered.now) }
 {
     if u64::little(gathered, 0) == crate::MAGIC {
@@ -161,8 +169,8 @@ fn magic_read(c: Control, gathered: &[u8], length: u64) -> Control
 }
 
 // A header is judged when its 16 bytes are there.
-fn header_read(c: Control, gathered: &[u8], length: u64) -> Result<Control, Refusal>
-    requires { Gathered 16 c gathered.now × Roomy c length }
+fn header_read(c: Control, gathered: &[u8; GATHERED], length: u64) -> Result<Control, Refusal>
+    requires { (c.kept ≡ 16) × Roomy c length }
     ensures { spec.header_read length (state_of c gathered.now) ≡ spec.no_stores (after c result gathered.now) }
 {
     let n = u64::little(gathered, commands::DATA_LENGTH);
@@ -201,11 +209,11 @@ fn skipped_read(c: Control, n: u64, length: u64) -> Result<Control, Refusal>
 fn parameters_read(
     c: Control,
     k: Command,
-    gathered: &[u8],
+    gathered: &[u8; GATHERED],
     on: Setting,
     memory: &mut [u8],
 ) -> Result<Control, Refusal>
-    requires { Gathered (16 + judged_bytes k) c gathered.now × (wrong_length k (data_length (state_of c gathered.now).gathered) ≡ false)
+    requires { (c.kept ≡ 16 + judged_bytes k) × (wrong_length k (data_length (state_of c gathered.now).gathered) ≡ false)
         × Roomy c on.job.length × Lent on.map.bytes.now (length memory.old) }
     ensures { Done (spec.parameters_read k (held on.entry) (state_of c gathered.now)) (after c result gathered.now)
         (regions on.entry.map.bytes.now) memory.old memory.new }
@@ -219,8 +227,8 @@ fn parameters_read(
 }
 
 // A write's address is judged over its whole range.
-fn write_read(c: Control, gathered: &[u8], on: Setting) -> Result<Control, Refusal>
-    requires { Gathered 24 c gathered.now × (8 ≤ data_length (state_of c gathered.now).gathered) × Roomy c on.job.length }
+fn write_read(c: Control, gathered: &[u8; GATHERED], on: Setting) -> Result<Control, Refusal>
+    requires { (c.kept ≡ 24) × (8 ≤ data_length (state_of c gathered.now).gathered) × Roomy c on.job.length }
     ensures { spec.write_read on.entry.job (regions on.entry.map.bytes.now) (state_of c gathered.now)
         ≡ spec.no_stores (after c result gathered.now) }
 {
@@ -237,11 +245,11 @@ fn write_read(c: Control, gathered: &[u8], on: Setting) -> Result<Control, Refus
 // A fill is stored in one go.
 fn fill_read(
     c: Control,
-    gathered: &[u8],
+    gathered: &[u8; GATHERED],
     on: Setting,
     memory: &mut [u8],
 ) -> Result<Control, Refusal>
-    requires { Gathered 40 c gathered.now × Roomy c on.job.length × Lent on.map.bytes.now (length memory.old) }
+    requires { (c.kept ≡ 40) × Roomy c on.job.length × Lent on.map.bytes.now (length memory.old) }
     ensures { Done (spec.fill_read on.entry.job (regions on.entry.map.bytes.now) (state_of c gathered.now))
         (after c result gathered.now) (regions on.entry.map.bytes.now) memory.old memory.new }
 {
@@ -253,8 +261,8 @@ fn fill_read(
     Ok(finished(Control { tally, ..c }, on.job.length))
 }
 
-fn entry_read(c: Control, gathered: &[u8], job: Job) -> Result<Control, Refusal>
-    requires { Gathered 24 c gathered.now × Roomy c job.length }
+fn entry_read(c: Control, gathered: &[u8; GATHERED], job: Job) -> Result<Control, Refusal>
+    requires { (c.kept ≡ 24) × Roomy c job.length }
     ensures { spec.entry_read job (state_of c gathered.now) ≡ spec.no_stores (after c result gathered.now) }
 {
     let address = u64::little(gathered, commands::ADDRESS);
@@ -263,8 +271,8 @@ fn entry_read(c: Control, gathered: &[u8], job: Job) -> Result<Control, Refusal>
     Ok(finished(Control { tally, ..c }, job.length))
 }
 
-fn check_read(c: Control, gathered: &[u8], on: Setting) -> Result<Control, Refusal>
-    requires { Gathered 104 c gathered.now × Roomy c on.job.length }
+fn check_read(c: Control, gathered: &[u8; GATHERED], on: Setting) -> Result<Control, Refusal>
+    requires { (c.kept ≡ 104) × Roomy c on.job.length }
     ensures { spec.check_read on.entry.job.length (leaves on.entry.table.now) (state_of c gathered.now)
         ≡ spec.no_stores (after c result gathered.now) }
 {

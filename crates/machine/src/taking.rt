@@ -8,7 +8,7 @@ ghost use Rattle.machine.specs.ContractWords.{Gathers, Done, Lent, Ready, Used, 
 ghost use Rattle.machine.specs.Machine as spec;
 ghost use Rattle.machine.specs.Memory.{applied};
 
-use crate::{Awaited, Control, Phase, Setting, Taken, memory, steps};
+use crate::{Awaited, Control, GATHERED, Phase, Setting, Taken, memory, steps};
 use octets::parts;
 use std::cmp::min;
 
@@ -16,13 +16,12 @@ use std::cmp::min;
 // the inner one takes its bytes. Both are left where the piece is used up, by a label, as the customer's document asks.
 pub fn take_all(
     c: Control,
-    gathered: &mut [u8],
+    gathered: &mut [u8; GATHERED],
     piece: &[u8],
     on: Setting,
     memory: &mut [u8],
 ) -> Control
-    requires { (list.length gathered.old ≡ 104)
-        × Ready on.job on.map.bytes.now on.table.now (list.length memory.old) (state_of c gathered.old) }
+    requires { Ready on.job on.map.bytes.now on.table.now (list.length memory.old) (state_of c gathered.old) }
     ensures { Done (effects (held on.entry) (state_of c gathered.old) piece.now) (state_of result gathered.new)
         (regions on.entry.map.bytes.now) memory.old memory.new }
 {
@@ -59,8 +58,14 @@ fn is_over(c: Control) -> bool
 }
 
 // What the next bytes do: as many as the phase can use at once, at least one.
-fn take(c: Control, gathered: &mut [u8], rest: &[u8], on: Setting, memory: &mut [u8]) -> Taken
-    requires { (0 < list.length rest.now) × (list.length gathered.old ≡ 104)
+fn take(
+    c: Control,
+    gathered: &mut [u8; GATHERED],
+    rest: &[u8],
+    on: Setting,
+    memory: &mut [u8],
+) -> Taken
+    requires { (0 < list.length rest.now)
         × Ready on.job on.map.bytes.now on.table.now (list.length memory.old) (state_of c gathered.old) }
     ensures { Used (held on.entry) (state_of c gathered.old) rest.now result.used
         (state_of result.control gathered.new) (regions on.entry.map.bytes.now) memory.old memory.new }
@@ -87,12 +92,12 @@ fn take(c: Control, gathered: &mut [u8], rest: &[u8], on: Setting, memory: &mut 
 fn take_gathered(
     c: Control,
     what: Awaited,
-    gathered: &mut [u8],
+    gathered: &mut [u8; GATHERED],
     rest: &[u8],
     on: Setting,
     memory: &mut [u8],
 ) -> Taken
-    requires { (0 < list.length rest.now) × (list.length gathered.old ≡ 104) × (c.phase ≡ phase_of what)
+    requires { (0 < list.length rest.now) × (c.phase ≡ phase_of what)
         × Ready on.job on.map.bytes.now on.table.now (list.length memory.old) (state_of c gathered.old) }
     ensures { Used (held on.entry) (state_of c gathered.old) rest.now result.used
         (state_of result.control gathered.new) (regions on.entry.map.bytes.now) memory.old memory.new }
@@ -107,7 +112,7 @@ fn take_gathered(
 }
 
 // As many bytes are kept as are awaited, up to `all`, and at hand.
-fn gather(c: Control, all: u64, gathered: &mut [u8], rest: &[u8]) -> Taken
+fn gather(c: Control, all: u64, gathered: &mut [u8; GATHERED], rest: &[u8]) -> Taken
     requires { (c.kept ≤ all) × (all ≤ list.length gathered.old) × (c.next + (all - c.kept) < 2 ^ 64) }
     ensures { Gathers all c gathered.old rest.now result.control gathered.new result.used }
 {

@@ -10,14 +10,14 @@ use Rattle.machine.proofs.commands.judge_check.Goals as goal
 pub returns-then-c-gt3 : goal.returns-then-c-gt3
 returns-then-c-gt3 c =
     let a = c.args in
-    let register = one_byte a.c.now 32 (omega (arith, c.requires)) in
+    let register = one_byte a.c.now 32 (omega arith) in
     no_register (leaves a.table.now) a.c.now (sym c.has_zero.ensures ∙ c.if-not-has_zero.false)
     (not-true _ (sym c.is_available.ensures ∙ c.if-not-is_available.false)) (omega (arith, register, c.if-c-gt3.true))
 
 pub returns : goal.returns
 returns c =
     let a = c.args in
-    let register = one_byte a.c.now 32 (omega (arith, c.requires)) in
+    let register = one_byte a.c.now 32 (omega arith) in
     c.judge_found.ensures
     ∙ (λ j. first_broken (found_rules (c.looked_up-found.ensures j) (c.little.ensures j) (c.little-2.ensures j)))
     ∙ by-record (leaves a.table.now) a.c.now (sym c.has_zero.ensures ∙ c.if-not-has_zero.false)

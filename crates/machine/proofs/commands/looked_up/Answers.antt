@@ -8,4 +8,4 @@ returns c =
     let a = c.args in
     let table = leaves a.table.now in
     c.lookup.ensures
-    ∙ (λ i. lookup table (c.little-eax.ensures i) (c.little-ecx.ensures i) (one_byte a.c.now 32 (omega (arith, c.requires)) i))
+    ∙ (λ i. lookup table (c.little-eax.ensures i) (c.little-ecx.ensures i) (one_byte a.c.now 32 (omega arith) i))

@@ -26,10 +26,10 @@ returns-in_err-judge_range c =
     let a = c.args in
     let h = a.gathered.now in
     let s = state_of a.c h in
-    let at = field h a.c.kept 16 8 (omega (arith, c.requires.0.kept)) c.little-address.ensures in
-    let long = field h a.c.kept 24 8 (omega (arith, c.requires.0.kept)) c.little-n.ensures in
+    let at = field h a.c.kept 16 8 (omega (arith, c.requires.0)) c.little-address.ensures in
+    let long = field h a.c.kept 24 8 (omega (arith, c.requires.0)) c.little-n.ensures in
     let byte =
-    field h a.c.kept 32 1 (omega (arith, c.requires.0.kept)) (one_byte h 32 (omega (arith, c.requires.0.room))) in
+    field h a.c.kept 32 1 (omega (arith, c.requires.0)) (one_byte h 32 (omega arith)) in
     done-no_stores _ _ _
     (fill-by a.on.job (regions a.on.map.bytes.now) s at long byte
     ∙ judged-stops a.c h _ c.from_residual.result c.in_err-judge_range.field-0.0 c.in_err-judge_range.ensures (search rules))
@@ -39,10 +39,10 @@ returns c =
     let a = c.args in
     let h = a.gathered.now in
     let s = state_of a.c h in
-    let at = field h a.c.kept 16 8 (omega (arith, c.requires.0.kept)) c.little-address.ensures in
-    let long = field h a.c.kept 24 8 (omega (arith, c.requires.0.kept)) c.little-n.ensures in
+    let at = field h a.c.kept 16 8 (omega (arith, c.requires.0)) c.little-address.ensures in
+    let long = field h a.c.kept 24 8 (omega (arith, c.requires.0)) c.little-n.ensures in
     let byte =
-    field h a.c.kept 32 1 (omega (arith, c.requires.0.kept)) (one_byte h 32 (omega (arith, c.requires.0.room))) in
+    field h a.c.kept 32 1 (omega (arith, c.requires.0)) (one_byte h 32 (omega arith)) in
     done-same
     (fill-by a.on.job (regions a.on.map.bytes.now) s at long byte ∙ judged-goes s _ c.in_ok-judge_range.ensures)
     (record {

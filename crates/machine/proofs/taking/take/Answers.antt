@@ -5,18 +5,18 @@ use Rattle.machine.proofs.taking.take.Goals as goal
 
 pub take_stored-requires : goal.take_stored-requires
 take_stored-requires c =
-    let a = stores-ahead c.args.c c.args.gathered.now c.requires.1 c.requires.2 _ _ c.in-Storing.is in
-    (a.0, ready-lent c.requires.2, a.1)
+    let a = stores-ahead c.args.c c.args.gathered.now c.requires.1 _ _ c.in-Storing.is in
+    (a.0, ready-lent c.requires.1, a.1)
 
 pub take_skipped-requires : goal.take_skipped-requires
-take_skipped-requires c = skips-ahead c.args.c c.args.gathered.now c.requires.1 c.requires.2 _ c.in-Skipping.is
+take_skipped-requires c = skips-ahead c.args.c c.args.gathered.now c.requires.1 _ c.in-Skipping.is
 
 pub returns-in-Storing : goal.returns-in-Storing
 returns-in-Storing c =
     let e = c.in-Storing.is in
     let k = c.take_stored.ensures in
     used-stored (held c.args.on) c.args.c c.args.gathered.now c.args.rest.now
-    (any-stored c.args.c c.args.gathered.now c.requires.1 c.requires.2 _ _ e) c.requires.0 k.1 c.take_stored.result.control e
+    (any-stored c.args.c c.args.gathered.now c.requires.1 _ _ e) c.requires.0 k.1 c.take_stored.result.control e
     k.2 k.0
 
 pub returns-in-Skipping : goal.returns-in-Skipping
@@ -24,7 +24,7 @@ returns-in-Skipping c =
     let e = c.in-Skipping.is in
     let k = c.take_skipped.ensures in
     used-skipped (held c.args.on) c.args.c c.args.gathered.now c.args.rest.now
-    (any-skipped c.args.c c.args.gathered.now c.requires.1 c.requires.2 _ e) c.requires.0 k.0 c.take_skipped.result.control _ _ e
+    (any-skipped c.args.c c.args.gathered.now c.requires.1 _ e) c.requires.0 k.0 c.take_skipped.result.control _ _ e
     k.1
 
 pub returns-in-Stopped : goal.returns-in-Stopped

@@ -4,7 +4,7 @@ use Rattle.machine.proofs.TakingLaws.{going_start, going_on, going-none, going-s
 use Rattle.machine.proofs.taking.take_all.Goals as goal
 
 pub piece-init : goal.piece-init
-piece-init c = going_start c.requires.0 c.requires.1
+piece-init c = going_start c.requires
 
 pub loop-at-init : goal.loop-at-init
 loop-at-init c = record { rises = omega arith; going = c.piece.invariant }
@@ -13,24 +13,23 @@ pub take-t-requires : goal.take-t-requires
 take-t-requires c =
     let piece = c.args.piece.now in
     let g = c.loop-at.invariant.going in
-    (omega (arith, ap length (rest_of piece c.loop-at.at), length-drop c.loop-at.at piece), g.long, g.ready)
+    (omega (arith, ap length (rest_of piece c.loop-at.at), length-drop c.loop-at.at piece), g.ready)
 
 pub piece-smaller : goal.piece-smaller
 piece-smaller c =
-    let on = going_on c.loop-at.invariant.going (rest_of c.args.piece.now c.loop-at.at) c.take-t.ensures c.take-t.auto.gathered c.take-t.auto.memory in
+    let on = going_on c.loop-at.invariant.going (rest_of c.args.piece.now c.loop-at.at) c.take-t.ensures c.take-t.auto.memory in
     omega (arith, on.within, c.take-t.ensures.progress, c.loop-at.invariant.rises)
 
 pub piece-preserved : goal.piece-preserved
 piece-preserved c =
-    going_on c.loop-at.invariant.going (rest_of c.args.piece.now c.loop-at.at) c.take-t.ensures c.take-t.auto.gathered c.take-t.auto.memory
+    going_on c.loop-at.invariant.going (rest_of c.args.piece.now c.loop-at.at) c.take-t.ensures c.take-t.auto.memory
 
 pub loop-at-preserved : goal.loop-at-preserved
 loop-at-preserved c =
     record {
       rises = omega arith;
       going =
-          going_on c.loop-at.invariant.going (rest_of c.args.piece.now c.loop-at.at) c.take-t.ensures c.take-t.auto.gathered
-          c.take-t.auto.memory;
+          going_on c.loop-at.invariant.going (rest_of c.args.piece.now c.loop-at.at) c.take-t.ensures c.take-t.auto.memory;
     }
 
 pub returns-in-Stopped : goal.returns-in-Stopped
