@@ -4,11 +4,12 @@ use mathlib.Core.Path.{◌≡◌, refl, sym, ap, ap₂, ◌∙◌, subst}
 use mathlib.Core.List.{List, [], ◌∷◌}
 use Prim.Native.Nat.{ℕ, zero, suc}
 use native.Mathlib.Omega.{arith}
-use borrow.Author.Tests.{eq-eqb, ne_eqb, eqb-true, eqb-false}
-use lib.Bits.{bit_or, bit_xor, or_add_and, xor_add_and, xor_self, and_le_l, and_le_r}
+use borrow.Author.Tests.{eq-eqb, ne_eqb, eqb-true}
+use lib.Bits.{bit_or, or_add_and, and_le_r}
 use lib.Dec.{eqb, eqb-suc-zero}
+use lib.Pointwise.{pointwise}
 use lib.ListN.{length, replicate}
-use Rattle.std.specs.List.{fold, zip}
+use Rattle.std.specs.List.{fold}
 use Rattle.octets.specs.Parts.{same, all_zero}
 
 -- ---- two lists are the same just where they are equal
@@ -57,7 +58,7 @@ all_zero-eq s e = same-eq s (replicate (length s) 0) (sym (all_zero-same s) ∙ 
 pub eq-all_zero : (s : List ℕ) → s ≡ replicate (length s) 0 → all_zero s ≡ true
 eq-all_zero s e = all_zero-same s ∙ eq-same s (replicate (length s) 0) e
 
--- ---- bits gathered by | are none where each is none, and those of x ^ y where x and y are equal
+-- ---- bits gathered by | are none where each is none
 
 pub or-none : (x y : ℕ) → eqb (bit_or x y) 0 ≡ (eqb x 0 && eqb y 0)
 or-none zero y = refl
@@ -65,31 +66,20 @@ or-none (suc x) y =
     ne_eqb (bit_or (suc x) y) 0 (λ e. omega (arith, or_add_and (suc x) y, and_le_r (suc x) y))
     ∙ sym (ap (λ (t : Bool). t && eqb y 0) (eqb-suc-zero x))
 
-pub xor-none : (x y : ℕ) → eqb (bit_xor x y) 0 ≡ eqb x y
-xor-none x y = decided (eqb x y) refl
-  where
-    decided : (t : Bool) → eqb x y ≡ t → eqb (bit_xor x y) 0 ≡ eqb x y
-    decided true e = eq-eqb (bit_xor x y) 0 (ap (bit_xor x) (sym (eqb-true x y e)) ∙ xor_self x) ∙ sym e
-    decided false e =
-        ne_eqb (bit_xor x y) 0
-        (λ z. eqb-false x y e (omega (arith, xor_add_and x y, and_le_l x y, and_le_r x y)))
-        ∙ sym e
-
 -- one more byte: the bits gathered, and the test of what is left
 gathered : (bits x : ℕ) (t rest : Bool) → eqb x 0 ≡ t → (eqb (bit_or bits x) 0 && rest) ≡ (eqb bits 0 && (t && rest))
 gathered bits x t rest e =
     ap (λ (u : Bool). u && rest) (or-none bits x ∙ ap (λ (u : Bool). eqb bits 0 && u) e) ∙ and_assoc (eqb bits 0) t rest
 
-pub fold-same : (a b : List ℕ) (bits : ℕ) → length a ≡ length b
-    → eqb (fold (λ (t : ℕ) (p : ℕ × ℕ). bit_or t (bit_xor p.0 p.1)) bits (zip a b)) 0 ≡ (eqb bits 0 && same a b)
-unfolding same
-fold-same [] [] bits h = sym (and-true (eqb bits 0))
-fold-same [] (y ∷ b) bits h = absurd (omega arith)
-fold-same (x ∷ a) [] bits h = absurd (omega arith)
-fold-same (x ∷ a) (y ∷ b) bits h =
-    fold-same a b (bit_or bits (bit_xor x y)) (omega (arith, h)) ∙ gathered bits (bit_xor x y) (eqb x y) (same a b) (xor-none x y)
-
 pub fold-zero : (s : List ℕ) (bits : ℕ) → eqb (fold bit_or bits s) 0 ≡ (eqb bits 0 && all_zero s)
 unfolding all_zero
 fold-zero [] bits = sym (and-true (eqb bits 0))
 fold-zero (x ∷ s) bits = fold-zero s (bit_or bits x) ∙ gathered bits x (eqb x 0) (all_zero s) refl
+
+-- what the library's test of two lists says
+pub pointwise_same : (a b : List ℕ) → pointwise eqb a b ≡ same a b
+unfolding same
+pointwise_same [] [] = refl
+pointwise_same [] (y ∷ b) = refl
+pointwise_same (x ∷ a) [] = refl
+pointwise_same (x ∷ a) (y ∷ b) = ap (λ (t : Bool). eqb x y && t) (pointwise_same a b)

@@ -1,4 +1,4 @@
-// Numbers and parts of lent bytes: every other crate reads, writes, copies and compares bytes by these calls.
+// Numbers and parts of lent bytes: read, write, copy, fill and compare.
 #![tactic(auto)]
 
 pub mod numbers;

