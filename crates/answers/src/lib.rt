@@ -31,25 +31,25 @@ pub struct Answer {
     pub entry: u64,
 }
 
+pub fn stop_at(code: u64, place: u64) -> Stop
+    ensures { result ≡ spec.stop_at code place }
+{
+    Stop { code, place }
+}
+
 impl Stop {
     // Nothing refused.
     pub fn done() -> Stop
         ensures { result ≡ spec.stop_at 0 0 }
     {
-        Stop {
-            code: codes::DONE,
-            place: 0,
-        }
+        stop_at(codes::DONE, 0)
     }
 
     // A refusal, and its place.
     pub fn refused(why: Refusal, place: u64) -> Stop
         ensures { result ≡ spec.stop_at (number why) place }
     {
-        Stop {
-            code: why.code(),
-            place,
-        }
+        stop_at(why.code(), place)
     }
 }
 
@@ -66,11 +66,20 @@ pub fn told(stop: Stop, commands: u64, stored: u64, entry: u64) -> Answer
     }
 }
 
-// A refusal that nothing went before.
-pub fn refused(why: Refusal) -> Answer
-    ensures { result ≡ spec.refused (number why) }
+// A refusal, by its number, that nothing went before.
+pub fn refused(code: u64) -> Answer
+    ensures { result ≡ spec.refused code }
 {
-    told(Stop::refused(why, 0), 0, 0, 0)
+    told(stop_at(code, 0), 0, 0, 0)
+}
+
+impl Answer {
+    // The same by its name.
+    pub fn refused(why: Refusal) -> Answer
+        ensures { result ≡ spec.refused (number why) }
+    {
+        refused(why.code())
+    }
 }
 
 // Writes an answer into the lent record, and gives its code, which the call returns.
