@@ -5,7 +5,7 @@ use mathlib.Core.Path.{◌≡◌, refl, sym, ap, ◌∙◌}
 use Prim.Native.Nat.{ℕ}
 use native.Mathlib.Omega.{arith}
 use lib.ListN.{length}
-use Rattle.std.specs.Prelude.{Option, Some, None, unwrap_or, Result, Ok, Err}
+use Rattle.std.specs.Prelude.{Option, Some, None, unwrap_or, Result, Ok, Err, MatchResult}
 use Rattle.answers.specs.Answers.{refused, record_bytes, record_length, stop_at}
 use Rattle.answers.specs.Codes.{number}
 use Rattle.answers.specs.Rules.{first_broken, size_rules}
@@ -33,6 +33,11 @@ lent file map table mode = record { file = file; map = map; table = table; mode 
 pub stop_or-unwrap_or : (otherwise : Stop) (h : Option Stop) → unwrap_or h otherwise ≡ stop_or otherwise h
 stop_or-unwrap_or otherwise None = refl
 stop_or-unwrap_or otherwise (Some stop) = refl
+
+pub either-given : (r : Result Answer Refusal) {a : Answer} → MatchResult r (λ (x : Answer). a ≡ x) (λ (why : Refusal). a ≡ refused (number why))
+    → a ≡ answer_or_refused r
+either-given (Ok x) e = e
+either-given (Err why) e = e
 
 module _ (b : Bare) where
   -- what is judged before the file is looked at makes a machine ready to take it

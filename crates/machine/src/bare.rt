@@ -26,10 +26,7 @@ pub fn run_bare(
     if answer.len() != answers::RECORD_LENGTH {
         return Refusal::Argument.code();
     }
-    let a = match ran(file, map, table, mode, memory) {
-        Ok(a) => a,
-        Err(why) => answers::refused(why),
-    };
+    let a = ran(file, map, table, mode, memory).unwrap_or_else(answers::refused);
     answers::write_answer(answer, a)
 }
 
