@@ -52,10 +52,7 @@ fn open_answer(image: &[u8], approved: &[u8], signature: u64, output: &mut [u8])
         (header_of approved.now) (block_of image.now (header_of approved.now))
         output.old result output.new }
 {
-    match opened(image, approved, signature, output) {
-        Ok(answer) => answer,
-        Err(why) => answers::refused(why),
-    }
+    opened(image, approved, signature, output).unwrap_or_else(answers::refused)
 }
 
 // The answer where nothing of these is refused.
