@@ -126,7 +126,7 @@ fn in_order(map: &[u8]) -> bool
     true
 }
 
-// The records of a map.
+// The records of a map. The table's are cut out alike, and each of the two says what its own records read as.
 #[tactic(auto, using(crate::proofs::WalkLaws::chunks))]
 fn records(bytes: &[u8]) -> &[[u8; RECORD]]
     ensures { map (λ r. spec.region r 0) result.now ≡ spec.regions bytes.now }

@@ -34,6 +34,10 @@ pub record Sized (s : Stream) : Type 0 where
 
 -- ---- blocks
 
+-- block k of those that stand in an image from an offset on
+abbrev pub block_at : List ℕ → ℕ → ℕ → ℕ → List ℕ
+block_at image first block_size k = part image (first + k * block_size) block_size
+
 -- how many blocks are proved, and why not the next
 abbrev pub proved_of : Header → (ℕ → List ℕ) → ProvedBlocks
 proved_of d block = record { count = proved_blocks d block; stop = blocks_stop d block (proved_blocks d block) }

@@ -3,7 +3,7 @@ ghost use Rattle.answers.specs.Codes.{code_of};
 ghost use Rattle.answers.specs.Rules.{first_broken};
 ghost use Rattle.chain.specs.Blocks as spec;
 ghost use Rattle.chain.specs.Code.{stream_of};
-ghost use Rattle.chain.specs.ContractWords.{Passes, proved_of};
+ghost use Rattle.chain.specs.ContractWords.{Passes, proved_of, block_at};
 ghost use Rattle.chain.specs.Header.{header_of, first_block};
 
 use crate::hashsum;
@@ -12,7 +12,7 @@ use answers::Stop;
 use answers::codes::Refusal;
 use octets::parts;
 
-// How many blocks are proved, and why not the next.
+// How many blocks are proved, and why not the next; a stop is numbers, as the C record has them.
 #[derive(Clone, Copy)]
 pub struct ProvedBlocks {
     pub count: u64,
@@ -58,9 +58,7 @@ impl<'a> Image<'a> {
         requires { k < self.stream.count }
         ensures { result.now ≡ block_in self.entry k }
     {
-        let size = self.stream.block_size as usize;
-        let start = self.first + k as usize * size;
-        &self.bytes[start..start + size]
+        block(self.bytes, self.first, self.stream.block_size, k)
     }
 
     // 13 to 15, of block k.
@@ -88,10 +86,26 @@ impl<'a> Image<'a> {
         requires { k < self.stream.count }
         ensures { result.now ≡ spec.file_bytes (approved_header self.entry).stream k (block_in self.entry k) }
     {
-        let at = self.stream.hashsum_length as usize + padding_of(self.stream, k) as usize;
-        let block = self.block(k);
-        &block[at..]
+        file_bytes(self.stream, k, self.block(k))
     }
+}
+
+// Block k of those of this size that begin at `first`.
+pub fn block<'a>(image: &'a [u8], first: usize, block_size: u32, k: u64) -> &'a [u8]
+    requires { first + k * block_size + block_size ≤ length image.now }
+    ensures { result.now ≡ block_at image.now first block_size k }
+{
+    let start = first + k as usize * block_size as usize;
+    &image[start..start + block_size as usize]
+}
+
+// The file's bytes in block k, of these bytes.
+pub fn file_bytes<'a>(s: Stream, k: u64, block: &'a [u8]) -> &'a [u8]
+    requires { s.hashsum_length + spec.padding_of (stream_of s) k ≤ length block.now }
+    ensures { result.now ≡ spec.file_bytes (stream_of s) k block.now }
+{
+    let at = s.hashsum_length as usize + padding_of(s, k) as usize;
+    &block[at..]
 }
 
 // 13 to 15, of block k by its expected hashsum and its bytes.

@@ -22,7 +22,7 @@ pub fn hashsum_is(ids: [u64; 4], message: &[u8], expected: &[u8]) -> bool
     left.is_empty()
 }
 
-// The length of the hashsums that these IDs give.
+// The length of the hashsums that these IDs give. Written as `map(..).sum()` it left two goals open.
 pub fn sum_length(ids: [u64; 4]) -> u64
     ensures { result ≡ spec.sum_length ids }
 {

@@ -13,7 +13,8 @@ use answers::Answer;
 use answers::codes::{self, Refusal};
 use octets::parts;
 
-// Proves an image's blocks one by one, and copies the file out as far as they are proved.
+// Proves an image's blocks one by one, and copies the file out as far as they are proved. Parameters and result are those
+// of the C call.
 pub fn open(
     image: &[u8],
     header: &[u8],
@@ -52,7 +53,7 @@ fn open_answer(image: &[u8], approved: &[u8], signature: u64, output: &mut [u8])
         (header_of approved.now) (block_of image.now (header_of approved.now))
         output.old result output.new }
 {
-    opened(image, approved, signature, output).unwrap_or_else(answers::refused)
+    opened(image, approved, signature, output).unwrap_or_else(Answer::refused)
 }
 
 // The answer where nothing of these is refused.

@@ -47,6 +47,7 @@ pub fn pack(
     }
 }
 
+// The same, before a refusal becomes the number that C gets.
 fn packed(order: Order, output: &mut [u8]) -> Result<(), Refusal>
     ensures { spec.packed (ordered order.entry) output.old ≡ record { code = code_of result; output = output.new } }
 {

@@ -154,6 +154,7 @@ impl<W: Word, const R: usize> Constants<'_, W, R> {
         v
     }
 
+    // Written as one with the early rounds, each round would test whether a word is to come.
     #[inline(always)]
     fn late_rounds(&self, s: State<W>, w: &[W; R]) -> State<W>
         ensures { Leads W.width (W.width.rounds - 16) (words W.value s) (map W.value w.now) W.width.rounds (words W.value result) (map W.value w.now) }

@@ -68,7 +68,7 @@ pub fn load(
 fn load_answer(offer: Offer, memory: &mut [u8]) -> Answer
     ensures { LoadGives (offered offer.entry) memory.old result memory.new }
 {
-    load_judged(offer, memory).unwrap_or_else(answers::refused)
+    load_judged(offer, memory).unwrap_or_else(Answer::refused)
 }
 
 // What the blocks come to, where none of 1 to 12 is given. The header is read once, as it is judged.

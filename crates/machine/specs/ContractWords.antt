@@ -125,8 +125,9 @@ pub record Gathers (all : ℕ) (c : Control) (gathered rest : List ℕ) (r : Con
 
 -- ---- what they may ask
 
--- Lent and Roomy stand in the contracts and in no struct: each speaks of a control or of memory that the run changes, so a
--- struct that carried it would be taken apart and made again at each step.
+-- Lent and Roomy, and that one command more can be counted, stand in the contracts and in no struct: each speaks of a control
+-- or of memory that the run changes, so a struct that carried it would be taken apart and made again at each step. Ready is
+-- the clause of take_piece, which PROMISES names, handed on to what takes the piece.
 
 -- a file that is not too long, a map that is taken with this much memory, and a state that begin and earlier pieces give
 pub record Ready (job : Job) (map table : List ℕ) (memory : ℕ) (s : State) : Type 0 where

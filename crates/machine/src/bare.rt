@@ -11,6 +11,7 @@ use answers::{Answer, Stop, rules};
 use board::{cpuid, map, reach};
 
 // Runs a command file: every byte counts as proved. Returns the code, and leaves the answer in the lent record.
+// Parameters and result are those of the C call; a struct of the four that `ran` and `judge` take too would be no plainer.
 pub fn run_bare(
     file: &[u8],
     map: &[u8],
@@ -26,7 +27,7 @@ pub fn run_bare(
     if answer.len() != answers::RECORD_LENGTH {
         return Refusal::Argument.code();
     }
-    let a = ran(file, map, table, mode, memory).unwrap_or_else(answers::refused);
+    let a = ran(file, map, table, mode, memory).unwrap_or_else(Answer::refused);
     answers::write_answer(answer, a)
 }
 

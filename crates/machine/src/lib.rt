@@ -18,7 +18,7 @@ use answers::codes::{self, Refusal};
 use answers::{Answer, Stop};
 use board::map::Map;
 
-// What a run is given besides the unit's map and table: the file's length, and the mode.
+// What a run is given besides the unit's map and table: the file's length, and the mode, a number as C gives it.
 #[derive(Clone, Copy)]
 pub struct Job {
     pub length: u64,
@@ -50,7 +50,7 @@ pub enum Named {
     Unknown,
 }
 
-// What bytes are gathered for, to be judged when all are there.
+// What bytes are gathered for, to be judged when all are there: three of the phases, whose form the customer gave.
 #[derive(Clone, Copy)]
 pub enum Awaited {
     Magic,

@@ -17,7 +17,7 @@ pub enum Part {
     Entry(u64),
     // of ECX where EAX is 7 and ECX is 1, under the mask 0x30, 104 bytes
     Check(u32),
-    // a command's header alone: ID, and data length
+    // a command's header alone: ID, which need not be a command's, and data length
     Header(u16, u64),
     Eight(u64),
     Four(u32),

@@ -55,6 +55,7 @@ fn lines(rt: &impl Print, name: &str, message: &[u8], sizes: &[usize]) -> io::Re
     Ok(())
 }
 
+// By `hashes::digest`, where `pieces` takes a `Hasher`: the two calls are to give the same.
 fn whole(rt: &impl Print, name: impl fmt::Display + Drop, message: &[u8]) -> io::Result<()> {
     for (id, hash) in HASHES {
         let mut room = [0u8; 64];
