@@ -88,7 +88,7 @@ impl Map<'_> {
         below as usize
     }
 
-    // The sum of the lengths.
+    // The sum of the lengths. Written as `map(..).sum()` it left two goals open.
     #[tactic(auto, using(crate::proofs::WalkLaws::regions_in_order), unfolding(crate::specs::Map::total))]
     pub fn total(self) -> u64
         ensures { result ≡ spec.total (spec.regions self.entry.bytes.now) }
