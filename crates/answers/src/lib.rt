@@ -31,6 +31,7 @@ pub struct Answer {
     pub entry: u64,
 }
 
+// Of any number, as the promise has always been; a `Refusal` has its own call.
 pub fn stop_at(code: u64, place: u64) -> Stop
     ensures { result ≡ spec.stop_at code place }
 {
@@ -66,7 +67,7 @@ pub fn told(stop: Stop, commands: u64, stored: u64, entry: u64) -> Answer
     }
 }
 
-// A refusal, by its number, that nothing went before.
+// A refusal, by any number, that nothing went before.
 pub fn refused(code: u64) -> Answer
     ensures { result ≡ spec.refused code }
 {

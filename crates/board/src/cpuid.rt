@@ -38,7 +38,7 @@ pub fn lookup(table: &[u8], eax: u32, ecx: u32, register: u64) -> Option<u32>
     ensures { result ≡ spec.lookup (spec.leaves table.now) eax ecx register }
 {
     let wanted = Inputs { eax, ecx };
-    // no binary search: the promise is for tables in any order
+    // no binary search: the promise is for tables in any order; written as `find` it left two goals open
     for record in records(table) {
         if Inputs::of(record) == wanted {
             return Some(word(record, register));

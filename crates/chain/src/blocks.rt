@@ -90,7 +90,7 @@ impl<'a> Image<'a> {
     }
 }
 
-// Block k of those of this size that begin at `first`.
+// Block k of those of this size that begin at `first`: the promise is for any bytes, and not only of an image that passed.
 pub fn block<'a>(image: &'a [u8], first: usize, block_size: u32, k: u64) -> &'a [u8]
     requires { first + k * block_size + block_size ≤ length image.now }
     ensures { result.now ≡ block_at image.now first block_size k }
@@ -99,7 +99,7 @@ pub fn block<'a>(image: &'a [u8], first: usize, block_size: u32, k: u64) -> &'a 
     &image[start..start + block_size as usize]
 }
 
-// The file's bytes in block k, of these bytes.
+// The file's bytes in block k, of any bytes that are long enough.
 pub fn file_bytes<'a>(s: Stream, k: u64, block: &'a [u8]) -> &'a [u8]
     requires { s.hashsum_length + spec.padding_of (stream_of s) k ≤ length block.now }
     ensures { result.now ≡ spec.file_bytes (stream_of s) k block.now }

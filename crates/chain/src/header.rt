@@ -16,7 +16,7 @@ use std::array;
 // The magic at the start of each signed header.
 pub const MAGIC: u32 = 0xe6019598;
 
-// What a header says of its blocks. The IDs are numbers, as it has them: `hashes::digest` takes any.
+// What a header says of its blocks. The IDs are numbers, as `hashes::digest` takes any.
 #[derive(Clone, Copy)]
 pub struct Stream {
     pub count: u32,

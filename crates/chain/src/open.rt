@@ -10,7 +10,7 @@ ghost use Rattle.chain.specs.Open as spec;
 use crate::blocks::Image;
 use crate::header;
 use answers::Answer;
-use answers::codes::{self, Refusal};
+use answers::codes::Refusal;
 use octets::parts;
 
 // Proves an image's blocks one by one, and copies the file out as far as they are proved. Parameters and result are those
@@ -33,6 +33,7 @@ pub fn open(
 }
 
 // The signature field: the bytes between header and first block, as a part of the image; none where open would give 1 or 4 to 12.
+// An empty part and no `Option`: the customer gave the form (docs/PROMISES.md), and C is given a part.
 pub fn signature_field<'a>(image: &'a [u8], header: &[u8], signature: u64) -> &'a [u8]
     ensures result_value { result.now ≡ spec.signature_field image.now header.now signature }
     ensures ref_ptr_value { result.ref_ptr

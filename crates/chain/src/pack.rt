@@ -16,7 +16,8 @@ use answers::rules;
 use octets::numbers::Number;
 use octets::parts;
 
-// Writes the image of a file, with a zeroed signature field; on a refusal it writes nothing.
+// Writes the image of a file, with a zeroed signature field; on a refusal it writes nothing. Parameters and result are those
+// of the C call.
 pub fn pack(
     file: &[u8],
     id1: u64,
@@ -109,7 +110,7 @@ impl<'a> Order<'a> {
     }
 }
 
-// 1, the image over 2^30 bytes, and 29, for an output of this length.
+// 1, the image over 2^30 bytes, and 29, for an output of this length. On the block size see `image_length`.
 fn judge_length(h: Header, output: u64) -> Result<(), Refusal>
     requires { h.stream.block_size ≤ 1048576 }
     ensures { code_of result ≡ first_broken (length_rules (header_with h []) output) }

@@ -36,7 +36,7 @@ impl<W: Word> State<W> {
         n * W::BYTES
     }
 
-    // An array of words would do, but its size is not known while their type is not.
+    // An array of words would do, but one of a type parameter owes a proof of its size: no plainer.
     fn word(self, i: usize) -> W
         requires { i < 8 }
         ensures { W.value result ≡ slice_index (in_order (words W.value self)) i }

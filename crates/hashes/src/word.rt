@@ -11,6 +11,7 @@ use octets::numbers::Number;
 // A number with the operations of FIPS 180-4 on words of its width.
 // Σ and σ have their rotations one after the other, and Ch and Maj one operation less: as FIPS 180-4 has them they run slower.
 // `plus`, `choice` and `majority` read alike at both widths: one text for both would need a trait for each operator, and is no plainer.
+// Σ and σ differ in their constants: one text for both would need rotations as methods, and the constants as parameters.
 pub trait Word: Number {
     ghost width: { Width };
 

@@ -92,7 +92,8 @@ fn judge_early(offer: Offer, memory: usize) -> Result<(), Refusal>
     cpuid::judge_table(offer.table)
 }
 
-// The blocks of an image that passed: each is proved when the machine waits for its bytes, and then run.
+// The blocks of an image that passed: each is proved when the machine waits for its bytes, and then run. Not of the offer,
+// whose image may not have passed.
 fn load_blocks(image: Image, map: &[u8], table: &[u8], mode: u64, memory: &mut [u8]) -> Answer
     requires { Loadable image map.now (length memory.old) }
     ensures { BlocksGive (offer_of image.entry map.now table.now mode) memory.old result memory.new }

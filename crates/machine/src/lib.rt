@@ -25,7 +25,8 @@ pub struct Job {
     pub mode: u64,
 }
 
-// What a run is held against: its job, and the unit's map and table.
+// What a run is held against: its job, and the unit's map and table. Memory is no field: a step writes it, while these are
+// read and copied.
 #[derive(Clone, Copy)]
 pub struct Setting<'m, 't> {
     pub job: Job,

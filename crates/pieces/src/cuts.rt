@@ -98,7 +98,7 @@ fn run(
     Ok(machine::answer_of(stop, end.control.tally))
 }
 
-// Takes the pieces one after another.
+// Takes the pieces one after another. Map and table are slices here, since the machine's contract speaks of these.
 fn taken(
     m: Machine,
     pieces: &[&[u8]],

@@ -25,7 +25,7 @@ fn main(rt: HostRuntime) -> io::Result<()> {
 }
 
 // The messages of the standard's published examples, whole and in pieces that end before, at and behind a block's border.
-// Calls and no table, so that each call shows that its piece sizes are not 0.
+// Calls and no table, so that each call shows that its piece sizes are not 0, which all below ask for: `chunks` does.
 fn published(rt: &(impl Print + AllocGlobal)) -> io::Result<()> {
     lines(rt, "empty", b"", &[])?;
     lines(rt, "abc", b"abc", &[1])?;
