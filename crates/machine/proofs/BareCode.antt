@@ -26,10 +26,6 @@ use Rattle.machine.specs.Memory.{applied}
 use Rattle.machine.proofs.BareLaws.{bare-short, bare-answered}
 use Rattle.machine.proofs.TakingLaws.{ready-begun}
 
--- what the code is given to read
-abbrev pub lent : List ℕ → List ℕ → List ℕ → ℕ → Bare
-lent file map table mode = record { file = file; map = map; table = table; mode = mode }
-
 pub stop_or-unwrap_or : (otherwise : Stop) (h : Option Stop) → unwrap_or h otherwise ≡ stop_or otherwise h
 stop_or-unwrap_or otherwise None = refl
 stop_or-unwrap_or otherwise (Some stop) = refl

@@ -33,6 +33,7 @@ use Rattle.machine.specs.declared.Job.{Job}
 use Rattle.machine.specs.declared.Phase.{Phase}
 use Rattle.machine.specs.declared.Phase.TheVariants.{Storing, Skipping, Stopped}
 use Rattle.machine.specs.declared.Setting as code
+use Rattle.machine.specs.declared.bare.Given.{Given}
 
 -- what the bytes do together: the state after them, and the stores that they cause
 abbrev pub effects : Setting → State → List ℕ → Effect
@@ -159,7 +160,11 @@ pub record Stores (c : Control) (address left file_length : ℕ) : Type 0 where
   pub below : address + left < 2 ^ 64
   pub counts : Roomy c file_length
 
--- ---- what a bare run gives
+-- ---- what a bare run is given and gives
+
+-- what the code is given to read
+abbrev pub bare_given : Given → Bare
+bare_given g = record { file = g.file.now; map = g.map.now; table = g.table.now; mode = g.mode }
 
 -- the answer, or that of a refusal that nothing went before
 abbrev pub answer_or_refused : Result Answer Refusal → Answer
