@@ -32,7 +32,7 @@ pub record Streamed (P : Width) (H : Eight) (v : Eight) (pending : List ℕ) (n 
 abbrev pub StreamFed : {S : Type 0} {n : ℕ} → Width → (S → Eight) → Eight → Stream S n → List ℕ → Type 0
 StreamFed P words H s x = Streamed P H (words s.words) s.pending s.length x
 
--- a hasher that was begun by the hash ID i and fed the bytes x
+-- a hasher that was begun by the hash ID i and fed the bytes x; of an ID that has no digest it tells no more than that
 abbrev pub Fed : Hasher → ℕ → List ℕ → Type 0
 Fed (Sha256 s) i x = (i ≡ 2) × StreamFed narrow plain initial256 s x
 Fed (Sha384 s) i x = (i ≡ 3) × StreamFed wide plain initial384 s x
