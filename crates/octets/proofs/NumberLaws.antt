@@ -2,10 +2,10 @@
 use mathlib.Core.Path.{◌≡◌, refl, sym, ap, ap₂, ◌∙◌}
 use mathlib.Core.List.{List, [], ◌∷◌, ◌++◌, reverse, reverse_aux, reverse-append, reverse-reverse}
 use Prim.Native.Nat.{ℕ, zero, suc, ◌+◌, ◌*◌, ◌/◌, ◌%◌, ◌^◌, ◌≤◌, ◌<◌}
-use native.Mathlib.Nat.{mul_comm, pow-suc, zero-add, suc-add, mod-lt, mod-one, mod-eq_of_lt, div-one}
+use native.Mathlib.Nat.{mul_comm, mul_assoc, pow-suc, zero-add, suc-add, mod-lt, mod-one, mod-eq_of_lt, div-one}
 use native.Mathlib.Nat.{div-div-eq-div-mul, one-le-pow, zero-lt-suc}
 use native.Mathlib.Omega.{arith}
-use lib.Arith.{mod-mul, digits_div, digits_mod}
+use lib.Arith.{mod-mul, digits_div, digits_mod, digits_lt}
 use lib.ListN.{length, get_or, length-reverse}
 use Rattle.octets.specs.Numbers.{little, little_bytes, big, big_bytes}
 use Rattle.octets.specs.Parts.{part, put, Octets}
@@ -14,12 +14,31 @@ use Rattle.octets.proofs.PartLaws.{part_items, put-beside, octets-cons}
 pos : zero < 256
 pos = zero-lt-suc 255
 
+-- ---- numbers of joined bytes
+
+pub little-append : (a b : List ℕ) → little (a ++ b) ≡ little a + 256 ^ length a * little b
+unfolding little
+little-append [] b = omega arith
+little-append (x ∷ a) b =
+    let e : 256 ^ length a * 256 * little b ≡ 256 * (256 ^ length a * little b) =
+    ap (λ (k : ℕ). k * little b) (mul_comm (256 ^ length a) 256) ∙ mul_assoc 256 (256 ^ length a) (little b) in
+    rw (little-append a b, pow-suc) (omega (arith, e))
+
+pub big-append : (a b : List ℕ) → big (a ++ b) ≡ big b + 256 ^ length b * big a
+big-append a b =
+    ap little (reverse-append a b) ∙ little-append (reverse b) (reverse a)
+    ∙ ap (λ (k : ℕ). big b + 256 ^ k * big a) (length-reverse b)
+
 -- ---- reading
 
--- a byte is the number that it spells
+-- a byte is the number that it spells, either way
 pub one_byte : (s : List ℕ) (at : ℕ) → at < length s → get_or s at 0 ≡ little (part s at 1)
 unfolding little
 one_byte s at h = let e : part s at 1 ≡ get_or s at 0 ∷ [] = part_items s at 1 (omega arith) in rw e (omega arith)
+
+pub one-byte-big : (s : List ℕ) (at : ℕ) → at < length s → get_or s at 0 ≡ big (part s at 1)
+one-byte-big s at h =
+    let e : part s at 1 ≡ get_or s at 0 ∷ [] = part_items s at 1 (omega arith) in one_byte s at h ∙ ap little (e ∙ sym (ap reverse e))
 
 -- ---- the bytes of a number
 
@@ -74,6 +93,13 @@ big_bytes-big s h =
     ap (λ (n : ℕ). big_bytes n (big s)) (sym (length-reverse s))
     ∙ ap reverse (little_bytes-little (reverse s) (octets-reverse s h)) ∙ reverse-reverse s
 
+pub little-lt : (s : List ℕ) → Octets s → little s < 256 ^ length s
+unfolding little
+little-lt [] h = omega arith
+little-lt (x ∷ s) h =
+    let d : little s * 256 + x < 256 ^ length s * 256 = digits_lt (little-lt s (λ i. h (suc i))) (h zero) in
+    rw pow-suc (omega arith)
+
 -- ---- writing: two halves, side by side, are the bytes of the whole
 
 pub little_bytes-add : (m n x : ℕ) → little_bytes (m + n) x ≡ little_bytes m x ++ little_bytes n (x / 256 ^ m)
@@ -93,6 +119,15 @@ little_bytes-mod n x =
     ∙ little_bytes-little (little_bytes n x) (octets-little_bytes n x)
 
 module _ (s t u : List ℕ) (at n x : ℕ) (fits : at + (n + n) ≤ length s) where
+  pub put-little : t ≡ put s at (little_bytes n (x % 256 ^ n)) → u ≡ put t (at + n) (little_bytes n (x / 256 ^ n))
+      → u ≡ put s at (little_bytes (n + n) x)
+  put-little e f =
+      f ∙ ap (λ (r : List ℕ). put r (at + n) (little_bytes n (x / 256 ^ n))) e
+      ∙ put-beside s at n (little_bytes n (x % 256 ^ n)) (little_bytes n (x / 256 ^ n)) (length-little_bytes n (x % 256 ^ n))
+      (omega (arith, length-little_bytes n (x / 256 ^ n)))
+      ∙ ap (λ (v : List ℕ). put s at v)
+      (ap (λ (v : List ℕ). v ++ little_bytes n (x / 256 ^ n)) (little_bytes-mod n x) ∙ sym (little_bytes-add n n x))
+
   pub put-big : t ≡ put s at (big_bytes n (x / 256 ^ n)) → u ≡ put t (at + n) (big_bytes n (x % 256 ^ n)) → u ≡ put s at (big_bytes (n + n) x)
   put-big e f =
       f ∙ ap (λ (r : List ℕ). put r (at + n) (big_bytes n (x % 256 ^ n))) e

@@ -5,7 +5,7 @@ use Prim.Native.Nat.{ℕ, zero, suc, ◌+◌, ◌-◌, ◌≤◌, ◌<◌}
 use native.Mathlib.Nat.{add-sub_of_le, zero-add, suc-add, add_assoc}
 use native.Mathlib.Numerals.{add-one}
 use native.Mathlib.Omega.{arith}
-use lib.ListN.{length, get_or, set, take, drop, length-append, length-take, length-drop}
+use lib.ListN.{length, get_or, set, take, drop, replicate, length-append, length-take, length-drop}
 use lib.Seq.{paste, paste-suc, take-nil, take-add, take_at, drop_at, take-take, drop-drop, drop-cons, get_or-drop}
 use lib.Seq.{length-take-le, take-append-le}
 use Rattle.octets.specs.Parts.{part, put, Octets}
@@ -122,3 +122,7 @@ octets-cons x s b h (suc i) = h i
 pub octets-append : (a b : List ℕ) → Octets a → Octets b → Octets (a ++ b)
 octets-append [] b h k = k
 octets-append (x ∷ a) b h k = octets-cons x (a ++ b) (h zero) (octets-append a b (λ j. h (suc j)) k)
+
+pub octets-replicate : (n x : ℕ) → x < 256 → Octets (replicate n x)
+octets-replicate zero x h i = omega arith
+octets-replicate (suc n) x h i = octets-cons x (replicate n x) h (octets-replicate n x h) i

@@ -4,8 +4,8 @@ use mathlib.Core.Path.{◌≡◌, refl, sym, ap, ap₂, ◌∙◌, subst}
 use mathlib.Core.List.{List, [], ◌∷◌}
 use Prim.Native.Nat.{ℕ, zero, suc}
 use native.Mathlib.Omega.{arith}
-use borrow.Author.Tests.{eq-eqb, ne_eqb, eqb-true}
-use lib.Bits.{bit_or, or_add_and, and_le_r}
+use borrow.Author.Tests.{eq-eqb, ne_eqb, eqb-true, eqb-false}
+use lib.Bits.{bit_or, bit_xor, or_add_and, xor_add_and, xor_self, and_le_l, and_le_r}
 use lib.Dec.{eqb, eqb-suc-zero}
 use lib.Pointwise.{pointwise}
 use lib.ListN.{length, replicate}
@@ -58,13 +58,23 @@ all_zero-eq s e = same-eq s (replicate (length s) 0) (sym (all_zero-same s) ∙ 
 pub eq-all_zero : (s : List ℕ) → s ≡ replicate (length s) 0 → all_zero s ≡ true
 eq-all_zero s e = all_zero-same s ∙ eq-same s (replicate (length s) 0) e
 
--- ---- bits gathered by | are none where each is none
+-- ---- bits gathered by | are none where each is none, and those of x ^ y where x and y are equal
 
 pub or-none : (x y : ℕ) → eqb (bit_or x y) 0 ≡ (eqb x 0 && eqb y 0)
 or-none zero y = refl
 or-none (suc x) y =
     ne_eqb (bit_or (suc x) y) 0 (λ e. omega (arith, or_add_and (suc x) y, and_le_r (suc x) y))
     ∙ sym (ap (λ (t : Bool). t && eqb y 0) (eqb-suc-zero x))
+
+pub xor-none : (x y : ℕ) → eqb (bit_xor x y) 0 ≡ eqb x y
+xor-none x y = decided (eqb x y) refl
+  where
+    decided : (t : Bool) → eqb x y ≡ t → eqb (bit_xor x y) 0 ≡ eqb x y
+    decided true e = eq-eqb (bit_xor x y) 0 (ap (bit_xor x) (sym (eqb-true x y e)) ∙ xor_self x) ∙ sym e
+    decided false e =
+        ne_eqb (bit_xor x y) 0
+        (λ z. eqb-false x y e (omega (arith, xor_add_and x y, and_le_l x y, and_le_r x y)))
+        ∙ sym e
 
 -- one more byte: the bits gathered, and the test of what is left
 gathered : (bits x : ℕ) (t rest : Bool) → eqb x 0 ≡ t → (eqb (bit_or bits x) 0 && rest) ≡ (eqb bits 0 && (t && rest))
