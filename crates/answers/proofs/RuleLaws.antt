@@ -1,6 +1,7 @@
 -- Laws of rules in an order, where the first that is broken gives its number.
 use mathlib.Core.Bool.{Bool, true, false, ◌&&◌, ◌||◌, cond}
-use mathlib.Core.List.{List, [], ◌∷◌, ◌++◌}
+use mathlib.Core.List.{List, [], ◌∷◌, ◌++◌, Memᴰ}
+use mathlib.Core.Logic.{◌⊎◌, inl, inr}
 use mathlib.Core.Path.{◌≡◌, refl, sym, ap, subst, ◌∙◌}
 use Prim.Native.Nat.{ℕ}
 use lib.Dec.{T, eqb}
@@ -79,6 +80,22 @@ zero-all-hold (r ∷ rs) n e = step r.broken refl e
     step true q z below = absurd (eqb-false r.code 0 (numbered-parts (eqb r.code 0) (numbered rs) n).0 z)
     step false q z below = (q, below z)
 
+-- the numbers of the rules
+abbrev pub codes : List Rule → List ℕ
+codes [] = []
+codes (r ∷ rs) = r.code ∷ codes rs
+
+-- the answer is 0 or the number of a rule
+pub first-broken-among : (rs : List Rule) → (first_broken rs ≡ 0) ⊎ Memᴰ (first_broken rs) (codes rs)
+first-broken-among [] = inl refl
+first-broken-among (r ∷ rs) = step r.broken (first-broken-among rs)
+  where
+    step : (b : Bool) → (first_broken rs ≡ 0) ⊎ Memᴰ (first_broken rs) (codes rs)
+        → (cond b r.code (first_broken rs) ≡ 0) ⊎ Memᴰ (cond b r.code (first_broken rs)) (r.code ∷ codes rs)
+    step true below = inr (Memᴰ.head refl)
+    step false (inl e) = inl e
+    step false (inr m) = inr (Memᴰ.tail m)
+
 -- what holds of 0 and of every number of the list holds of the answer
 abbrev pub EachCode : (ℕ → Type 0) → List Rule → Type 0
 EachCode P [] = Unit {0}
@@ -91,6 +108,15 @@ first-broken-has P (r ∷ rs) z h = step r.broken (first-broken-has P rs z h.1)
     step : (b : Bool) → P (first_broken rs) → P (cond b r.code (first_broken rs))
     step true below = h.0
     step false below = below
+
+-- of rules that all bear the number k, one is broken
+pub first-broken-same : (k : ℕ) (rs : List Rule) → EachCode (λ (n : ℕ). n ≡ k) rs → (AllHold rs → ⊥) → first_broken rs ≡ k
+first-broken-same k [] e f = absurd (f tt)
+first-broken-same k (r ∷ rs) e f = step r.broken refl (first-broken-same k rs e.1)
+  where
+    step : (b : Bool) → r.broken ≡ b → ((AllHold rs → ⊥) → first_broken rs ≡ k) → cond b r.code (first_broken rs) ≡ k
+    step true q below = e.0
+    step false q below = below (λ h. f (q, h))
 
 -- whether the codes of some rules all pass a test
 abbrev pub codes_pass : (ℕ → Bool) → List Rule → Bool
