@@ -10,7 +10,7 @@ use lib.Dec.{ltb}
 use lib.ListN.{length}
 use borrow.Author.Tests.{ltb-false, leb-true, eqb-true, eqb-false, le-ltb, le-leb, lt-leb, eq-eqb, ne_eqb, not-false}
 use Rattle.answers.specs.Rules.{first_broken}
-use Rattle.answers.proofs.RuleLaws.{AllHold, zero-all-hold, all-hold-zero}
+use Rattle.answers.proofs.RuleLaws.{AllHold, zero-all-hold, all-hold-zero, first-broken-same}
 use Rattle.board.specs.Records.{records}
 use Rattle.board.specs.Map.{Region, end, regions, ordered, total, map_rules, uncovered, ram, offset}
 use Rattle.board.proofs.RunLaws.{each_more}
@@ -303,6 +303,10 @@ module _ (map : List ℕ) (memory : ℕ) where
 
   pub map-means : first_broken (map_rules map memory) ≡ 0 → MapTaken map memory
   map-means z = all-means (zero-all-hold (map_rules map memory) tt z)
+
+  pub map-refused : (MapTaken map memory → ⊥) → 2 ≡ first_broken (map_rules map memory)
+  map-refused f =
+      sym (first-broken-same 2 (map_rules map memory) (refl, (refl, (refl, (refl, (refl, (refl, tt)))))) (λ h. f (all-means h)))
 
   pub map-holds : MapTaken map memory → first_broken (map_rules map memory) ≡ 0
   map-holds t =

@@ -5,7 +5,7 @@ use mathlib.Core.Logic.{◌⊎◌, inl, inr}
 use Prim.Native.Nat.{ℕ, zero, suc, ◌+◌, ◌≤◌, ◌<◌}
 use native.Mathlib.Nat.{eq-or-lt_of_le}
 use native.Mathlib.Omega.{arith}
-use lib.ListN.{take, drop}
+use lib.ListN.{length, take, drop}
 use lib.Seq.{take-take, drop-drop}
 use Rattle.octets.proofs.PartLaws.{part-of-take}
 use Rattle.octets.specs.Parts.{part}
@@ -15,6 +15,11 @@ use Rattle.std.proofs.Math.Nat.{mul-suc, mul-zero}
 use Rattle.board.specs.Records.{records}
 
 module _ {A : Type 0} (read : ℕ → A) where
+  pub length-records : (i n : ℕ) → length (records read i n) ≡ n
+  unfolding records
+  length-records i zero = refl
+  length-records i (suc n) = ap suc (length-records (suc i) n)
+
   -- the first k of n records
   pub take-records : (i n k : ℕ) → k ≤ n → take k (records read i n) ≡ records read i k
   unfolding records

@@ -2,7 +2,7 @@
 use mathlib.Core.Bool.{Bool, true, false, not, cond}
 use mathlib.Core.List.{List, ◌∷◌}
 use mathlib.Core.Logic.{◌⊎◌, inl, inr}
-use mathlib.Core.Path.{◌≡◌, refl, ap, subst, ◌∙◌}
+use mathlib.Core.Path.{◌≡◌, refl, sym, ap, subst, ◌∙◌}
 use Prim.Native.Nat.{ℕ, zero, suc, ◌+◌, ◌-◌, ◌/◌, ◌%◌, ◌≤◌, ◌<◌}
 use native.Mathlib.Decide.{ℕ_discrete}
 use native.Mathlib.Omega.{arith}
@@ -10,7 +10,7 @@ use lib.Dec.{eqb, ltb}
 use lib.ListN.{length}
 use borrow.Author.Tests.{ltb-true, ltb-false, eqb-true, lt-ltb, le-ltb, eq-eqb, ne_eqb, not-false}
 use Rattle.answers.specs.Rules.{first_broken}
-use Rattle.answers.proofs.RuleLaws.{AllHold, zero-all-hold, all-hold-zero}
+use Rattle.answers.proofs.RuleLaws.{AllHold, zero-all-hold, all-hold-zero, first-broken-same}
 use Rattle.board.specs.Cpuid.{Leaf, leaf, before, ascending, table_rules, register, lookup}
 use Rattle.board.specs.Records.{records}
 use Rattle.std.specs.Prelude.{Option}
@@ -172,6 +172,9 @@ module _ (table : List ℕ) where
 
   pub table-means : first_broken (table_rules table) ≡ 0 → TableTaken table
   table-means z = all-means (zero-all-hold (table_rules table) tt z)
+
+  pub table-refused : (TableTaken table → ⊥) → 3 ≡ first_broken (table_rules table)
+  table-refused f = sym (first-broken-same 3 (table_rules table) (refl, (refl, (refl, tt))) (λ h. f (all-means h)))
 
   pub table-holds : TableTaken table → first_broken (table_rules table) ≡ 0
   table-holds t =
