@@ -1,5 +1,5 @@
 -- Laws of a message that is fed piece by piece, over the width: one piece more, and the padding as its last pieces.
-use Rattle.std.proofs.Common.{◌≡◌, ℕ, zero, suc, suc-mul, mod-lt, ◌+◌, ◌-◌, ◌*◌, ◌/◌, ◌%◌, ◌^◌, ◌<◌, ◌≤◌, List, [], ◌∷◌, ◌++◌, length, take, drop, replicate, sym, refl, ap, ◌∙◌, subst, ap₂, append_assoc, mod-eq_of_lt, add-mul, one-mul, div-add-mod', zero-mul, div-mul-le_self, arith, length-append, length-drop, take-append-drop, drop_of_length-le, take_all, drop-drop, take_at}
+use Rattle.std.proofs.Common.{◌≡◌, ℕ, zero, suc, suc-mul, mod-lt, ◌+◌, ◌-◌, ◌*◌, ◌/◌, ◌%◌, ◌^◌, ◌<◌, ◌≤◌, List, [], ◌∷◌, ◌++◌, length, take, drop, set, replicate, sym, refl, ap, ◌∙◌, subst, ap₂, append_assoc, mod-eq_of_lt, add-mul, one-mul, div-add-mod', zero-mul, div-mul-le_self, add-one, arith, length-append, length-drop, length-set, take-append-drop, drop_of_length-le, take_all, drop-drop, take_at}
 use native.Mathlib.Nat.{div-eq_of_lt, div_self, mod-add-mod, mod_self}
 use native.Mathlib.Nat.{sub-zero, mul-mod_left, mul-add-div_right, mul-add-mod_self_right, zero-div, zero-mod}
 use Rattle.std.proofs.Math.Nat.{mod-mod_of_dvd}
@@ -7,10 +7,11 @@ use Rattle.std.proofs.lemmas.Nat.Gcd.{dvd_of_mod-eq-zero}
 use lib.ListN.{length-replicate}
 use lib.ListN.{replicate-append-replicate}
 use lib.Arith.{digits_mod}
-use lib.Seq.{drop-append-le}
+use lib.Seq.{drop-append-le, set_split}
 use Rattle.octets.specs.Numbers.{big_bytes}
 use Rattle.octets.specs.Parts.{put}
 use Rattle.octets.proofs.NumberLaws.{length-big_bytes}
+use Rattle.octets.proofs.PartLaws.{put-beside}
 use Rattle.hashes.specs.Widths.{Width, Eight}
 use Rattle.hashes.specs.Padding.{word_bytes, block_bytes, field_bytes, zero_bytes, padded}
 use Rattle.hashes.specs.Compression.{after_blocks, hashed}
@@ -264,3 +265,14 @@ module _ (P : Width) (some : 0 < word_bytes P) (H : Eight) {v : Eight} {pending 
 
       joined : x ++ mark ++ zeros ≡ x ++ (0x80 ∷ replicate (y + suc z) 0)
       joined = append_assoc x mark zeros ∙ ap (λ (s : List ℕ). x ++ (0x80 ∷ s)) (replicate-append-replicate y (suc z) 0)
+
+-- a byte stored, and bytes put behind it
+pub mark-put : (s : List ℕ) (at x : ℕ) (v : List ℕ) → at + 1 + length v ≤ length (set s at x)
+    → put (set s at x) (at + 1) v ≡ put s at (x ∷ v)
+mark-put s at x v h =
+    let l : at + 1 + length v ≤ length s = omega (arith, length-set s at x) in
+    ap (λ (t : List ℕ). put t (at + 1) v)
+    (set_split s at x (omega arith)
+    ∙ ap (λ (k : ℕ). take at s ++ x ∷ drop k s) (sym (add-one at))
+    ∙ sym (append_assoc (take at s) (x ∷ []) (drop (at + 1) s)))
+    ∙ put-beside s at 1 (x ∷ []) v refl l

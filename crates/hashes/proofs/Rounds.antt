@@ -162,3 +162,20 @@ pub record Fours (P : Width) (from to : ℕ) (v : Eight) (W : List ℕ) (i : ℕ
   pub until : i ≤ to
   pub whole : i % 4 ≡ 0
   pub leads : Leads P from v W i y Y
+
+module _ (P : Width) (from to : ℕ) where
+  pub fours-begin : {v : Eight} {W : List ℕ} → from ≤ to → from % 4 ≡ 0 → Fours P from to v W from v W
+  fours-begin l e = record { since = omega arith; until = l; whole = e; leads = λ H M h. h }
+
+  pub fours-more : {i : ℕ} {v y z : Eight} {W Y Z : List ℕ} → to % 4 ≡ 0 → i < to → Fours P from to v W i y Y → Leads P i y Y (i + 4) z Z
+      → Fours P from to v W (i + 4) z Z
+  fours-more e l h f =
+      record {
+        since = omega arith;
+        until = omega arith;
+        whole = omega arith;
+        leads = leads-on P h.leads f;
+      }
+
+  pub fours-end : {i : ℕ} {v y : Eight} {W Y : List ℕ} → to ≤ i → Fours P from to v W i y Y → Leads P from v W to y Y
+  fours-end l h = leads-to P (omega arith) h.leads

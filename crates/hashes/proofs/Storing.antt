@@ -67,10 +67,10 @@ module _ (P : Width) (ws : List ℕ) where
       let f = e ∙ zeros-in-sixty-four out l in
       record { until = omega arith; room = ap length f; stored = f }
 
-  pub store-more : (n i : ℕ) {out r : List ℕ} {x j k : ℕ} → n ≤ 8 → k ≤ 8 → j ≡ word_bytes P → k ≡ word_bytes P → i < n → Storing n out i
-      → x ≡ get_or ws i 0 → r ≡ put out (i * j) (big_bytes k x) → Storing n r (i + 1)
+  pub stored-more : (n i : ℕ) {out r : List ℕ} → n * word_bytes P ≤ 64 → i < n → Storing n out i
+      → r ≡ put out (i * word_bytes P) (big_bytes (word_bytes P) (get_or ws i 0)) → Storing n r (i + 1)
   unfolding joined
-  store-more n i {out} {r} {x} {j} {k} ln lk bj bk h s ex e =
+  stored-more n i {out} {r} l h s e =
       record {
         until = omega arith;
         room = ap length all ∙ length-sixty-four;
@@ -86,14 +86,11 @@ module _ (P : Width) (ws : List ℕ) where
       before : List ℕ
       before = joined P ws i
 
-      most : n * v ≤ 64
-      most = le_trans (mul-le-mul_right v ln) (omega (arith, bk))
-
       length-word : length word ≡ v
       length-word = length-big_bytes v (get_or ws i 0)
 
       fits : i * v + v ≤ 64
-      fits = le_trans (omega (arith, suc-mul i v, mul-le-mul_right v h)) most
+      fits = le_trans (omega (arith, suc-mul i v, mul-le-mul_right v h)) l
 
       length_both : length (before ++ word) ≡ i * v + v
       length_both = length-append before word ∙ ap₂ (λ (a b : ℕ). a + b) (length-joined i) length-word
@@ -114,13 +111,25 @@ module _ (P : Width) (ws : List ℕ) where
       all : r ≡ in_sixty_four (before ++ word)
       all =
           e
-          ∙ ap (λ (j : ℕ). put out (i * j) (big_bytes k x)) bj
-          ∙ ap₂ (λ (k x : ℕ). put out (i * v) (big_bytes k x)) bk ex
           ∙ ap (λ (s : List ℕ). put s (i * v) word) s.stored
           ∙ ap₂ (λ (s t : List ℕ). s ++ word ++ t) (take_at before zeros (i * v) (length-joined i)) behind
 
       length-sixty-four : length (in_sixty_four (before ++ word)) ≡ 64
       length-sixty-four = length-in_sixty_four (before ++ word) (omega (arith, length_both, fits))
+
+  -- of at most eight words, each of at most eight bytes
+  pub store-more : (n i : ℕ) {out r : List ℕ} {x j k : ℕ} → n ≤ 8 → k ≤ 8 → j ≡ word_bytes P → k ≡ word_bytes P → i < n → Storing n out i
+      → x ≡ get_or ws i 0 → r ≡ put out (i * j) (big_bytes k x) → Storing n r (i + 1)
+  store-more n i {out} {r} {x} {j} {k} ln lk bj bk h s ex e =
+      stored-more n i (le_trans (mul-le-mul_right (word_bytes P) ln) (omega (arith, bk))) h s
+      (e
+      ∙ ap (λ (j : ℕ). put out (i * j) (big_bytes k x)) bj
+      ∙ ap₂ (λ (k x : ℕ). put out (i * word_bytes P) (big_bytes k x)) bk ex)
+
+  pub store-all : (n i : ℕ) {out : List ℕ} → n ≤ i → Storing n out i → out ≡ in_sixty_four (joined P ws n)
+  store-all n i l s =
+      let e : i ≡ n = omega arith in
+      s.stored ∙ ap (λ (j : ℕ). in_sixty_four (joined P ws j)) e
 
 -- ---- a whole digest
 
