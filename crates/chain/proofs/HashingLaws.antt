@@ -12,14 +12,14 @@ use Rattle.std.proofs.lemmas.Slice.Eq.{bytes_eq-Decides}
 use borrow.Author.Tests.{ne_eqb}
 use lib.Dec.{eqb}
 use lib.ListN.{length, get_or, take, drop, replicate, drop_of_length-le, take-append-drop}
-use lib.ListN.{length-take}
-use lib.Seq.{take-suc, take_at, drop-cons}
+use lib.ListN.{length-append, length-replicate, length-take}
+use lib.Seq.{take-suc, take_all, take_at, drop-cons}
 use Rattle.octets.specs.Parts.{part, put, same}
 use Rattle.octets.proofs.PartLaws.{length-put, part-behind-put, put-beside}
-use Rattle.octets.proofs.TestLaws.{eq-same, ne_same}
+use Rattle.octets.proofs.TestLaws.{same-eq, eq-same, ne_same}
 use Rattle.hashes.specs.Code.{in_sixty_four}
 use Rattle.hashes.specs.Digests.{digest, digest_length}
-use Rattle.hashes.proofs.Theorems.{length-digest}
+use Rattle.hashes.proofs.Theorems.{length-digest, digest_length-most}
 use Rattle.chain.specs.Hashsum.{hashsum, sum_length, any_unknown}
 use Rattle.chain.proofs.HashsumLaws.{length-hashsum}
 
@@ -91,6 +91,11 @@ module _ {id n : ℕ} {m out : List ℕ} (e : Digested id m out n) where
   pub digest-within : n ≤ length out
   digest-within = omega (arith, digest-counted, length-take n out)
 
+  pub digest-room : length out ≡ 64
+  digest-room =
+      ap length e.bytes ∙ length-append (digest id m) (replicate (64 - length (digest id m)) 0)
+      ∙ omega (arith, length-digest id m, digest_length-most id, length-replicate {A = ℕ} (64 - length (digest id m)) 0)
+
 -- ---- digests compared one by one
 
 -- joined bytes are the same where their first part is and what comes behind it
@@ -140,6 +145,15 @@ module _ (ids m s : List ℕ) (i : ℕ) (h : i < length ids) {n : ℕ} {out : Li
       left-more
       ∙ ap (λ (b : Bool). b && same (hashsum (drop (i + 1) ids) m) (drop (length d) s)) (pointwise-same (take (length d) s) d true f)
 
+  pub compared-fits : pointwise eqb (take (length d) s) d ≡ true → n ≤ length s
+  compared-fits f =
+      omega (
+        arith,
+        ap length (same-eq d (take (length d) s) (pointwise-same (take (length d) s) d true f)),
+        length-take (length d) s,
+        digest-counted e,
+      )
+
 -- ---- digests written one by one, to an offset before the message that is hashed
 
 pub put-none : (s : List ℕ) (at : ℕ) → put s at [] ≡ s
@@ -159,6 +173,9 @@ module _ {ids before output : List ℕ} {start n at i place : ℕ} (w : Hashed i
   abbrev message : List ℕ
   message = part before start n
 
+  pub hashed-all : length ids ≤ i → output ≡ put before at (hashsum ids message)
+  hashed-all h = w.written ∙ ap (λ (t : List ℕ). put before at (hashsum t message)) (take_all i ids h)
+
   module _ (apart : at + sum_length ids ≤ start) (inside : start ≤ length before) where
     first_fits : at + length (hashsum (take i ids) message) ≤ start
     first_fits = omega (arith, length-hashsum (take i ids) message, first-shorter ids i)
@@ -167,7 +184,7 @@ module _ {ids before output : List ℕ} {start n at i place : ℕ} (w : Hashed i
     hashed_length = ap length w.written ∙ length-put before at (hashsum (take i ids) message) (omega (arith, first_fits))
 
     -- the message stays as it is
-    message-kept : part output start n ≡ message
+    pub message-kept : part output start n ≡ message
     message-kept =
         ap (λ (t : List ℕ). part t start n) w.written
         ∙ part-behind-put before at (hashsum (take i ids) message) (omega (arith, first_fits)) start n first_fits

@@ -2,11 +2,11 @@
 use mathlib.Core.Path.{◌≡◌, refl, sym, ap, ap₂, subst, ◌∙◌}
 use mathlib.Core.Bool.{Bool, true, false, cond}
 use mathlib.Core.List.{List, [], ◌∷◌, ◌++◌, append-nil, append_assoc}
-use Prim.Native.Nat.{ℕ, zero, suc, ◌+◌, ◌-◌, ◌*◌, ◌^◌, ◌≤◌, ◌<◌}
+use Prim.Native.Nat.{ℕ, zero, suc, ◌+◌, ◌-◌, ◌*◌, ◌/◌, ◌^◌, ◌≤◌, ◌<◌}
 use native.Mathlib.Nat.{zero-mul, suc-mul, sub-zero, mul-le-mul_left, mul-le-mul_right}
 use native.Mathlib.Numerals.{add-one}
 use native.Mathlib.Omega.{arith}
-use borrow.Author.Tests.{eq-eqb, ne_eqb, eqb-true, eqb-false, lt-ltb, ltb-true, leb-false}
+use borrow.Author.Tests.{eq-eqb, ne_eqb, eqb-true, eqb-false, lt-ltb, ltb-true, ltb-false, leb-false}
 use lib.Dec.{eqb, ltb, eqb-suc-zero}
 use lib.ListN.{length, get_or, take, drop, replicate, length-append, length-replicate, drop_of_length-le}
 use lib.Seq.{take_at, take-suc, length-take-le}
@@ -23,7 +23,7 @@ use Rattle.answers.specs.Rules.{Rule, rule, first_broken, signature_rules, size_
 use Rattle.answers.proofs.RuleLaws.{zero-all-hold, both_hold, refuses, goes_on}
 use Rattle.chain.specs.Blocks.{padding_of}
 use Rattle.chain.specs.Code.{stream_of, header_with, order_of}
-use Rattle.chain.specs.ContractWords.{order_rules, length_rules, Planned, start_of, room_of, Written, link_before}
+use Rattle.chain.specs.ContractWords.{order_rules, length_rules, Orderly, Planned, start_of, room_of, Written, link_before, Linkable}
 use Rattle.chain.specs.Hashsum.{hashsum, sum_length, id_rules}
 use Rattle.chain.specs.Header.{Header, id_bytes, header_bytes, first_block, image_length, block_size_rules}
 use Rattle.chain.specs.Pack.{Order, room, blocks, padding, pack_rules, chunk, link, blocks_from, packed_header, image, packed}
@@ -34,6 +34,25 @@ use Rattle.chain.proofs.HeaderLaws.{length_ids, length-header}
 use Rattle.chain.proofs.PackLaws.{Packable, packable, fewest, padding-small, padding-fills, within}
 use Rattle.chain.proofs.PackLaws.{length-block, length-link, length-chunk, link-more, link-last, blocks_more, blocks-none}
 use Rattle.chain.proofs.WritingLaws.{put_next, chunk-is, chunk-within, block_written, image-written}
+
+-- ---- the number of blocks fits
+
+pub record Counted (file room count : ℕ) : Type 0 where
+  pub holds : file ≤ count * room
+  pub padded : count * room - file < room
+  pub each : count ≤ count * room
+  pub small : count * room < 2 ^ 31
+
+pub counted : (file room : ℕ) → 0 < room → room ≤ 1048576 → 0 < file → file ≤ 2 ^ 30 → Counted file room ((file + room - 1) / room)
+counted file room pos below some small =
+    let n : ℕ = (file + room - 1) / room in
+    let f = fewest file room pos some in
+    record {
+      holds = f.holds;
+      padded = omega arith;
+      each = omega (arith, mul-le-mul_left n pos);
+      small = omega arith;
+    }
 
 -- a file is not longer than its image
 file-below : (p : Order) → sum_length p.ids < p.block_size → 0 < length p.file → length p.file ≤ image_length (packed_header p)
@@ -136,6 +155,14 @@ module _ (p : Order) (h : Fields) (e : header_with h (packed_header (order_of p.
   length-is : image_length (header_with h []) ≡ image_length (packed_header p)
   length-is = ap (λ (d : Header). d.header_size + d.signature + d.stream.count * d.stream.block_size) e
 
+  pub plans : (n : ℕ) → length p.ids ≡ 4 → first_broken (pack_rules p n) ≡ 0 → Planned p.file h n
+  plans n four z =
+      record {
+        four = ap (λ (d : Header). length d.stream.ids) e ∙ four;
+        fields = e ∙ sym (ap packed_header order_is);
+        passes = ap (λ (o : Order). first_broken (pack_rules o n)) order_is ∙ z;
+      }
+
 -- ---- its rules in two parts: what is packed, then the image's length
 
 module _ (p : Order) where
@@ -149,6 +176,19 @@ module _ (p : Order) where
 
   abbrev long : List Rule
   long = size_rules (length p.file)
+
+  pub orderly : first_broken (order_rules p) ≡ 0 → Orderly p
+  orderly e =
+      let h = zero-all-hold (order_rules p) tt e in
+      let sizes = h.1.1 in
+      let rest = sizes.1.1 in
+      record {
+        above = leb-false p.block_size (sum_length p.ids) sizes.0;
+        below = ltb-false 1048576 p.block_size sizes.1.0;
+        filled = let ne : (length p.file ≡ 0 → ⊥) = eqb-false (length p.file) 0 rest.0 in omega arith;
+        small = ltb-false (2 ^ 30) (length p.file) rest.1.1.1.0;
+        short = ltb-false 4096 p.signature rest.1.1.0;
+      }
 
   pub order-passes : first_broken (order_rules p) ≡ 0 → (n : ℕ) → first_broken (pack_rules p n) ≡ first_broken (length_rules (packed_header p) n)
   order-passes e n = goes_on given (length_rules (packed_header p) n) 0 tt (sym (both_hold given long tt e).0) refl
@@ -235,6 +275,16 @@ module _ (h : Fields) (k : ℕ) (s : List ℕ) where
       → link_before h k s ≡ hashsum h.stream.ids (part s (start_of h k) h.stream.block_size)
   link-of-block e = simp (ne_eqb k h.stream.count e)
 
+module _ {h : Fields} {k at n : ℕ} (l : Linkable h k at n) where
+  pub link_fits : at + h.stream.hashsum_length ≤ n
+  link_fits = omega (arith, l.before, l.holds, mul-le-mul_right h.stream.block_size l.numbered)
+
+  pub linked-fits : (k ≡ h.stream.count → ⊥) → start_of h k + h.stream.block_size ≤ n
+  linked-fits e =
+      let less : k < h.stream.count = omega (arith, l.numbered) in
+      omega (arith, l.holds, mul-le-mul_right h.stream.block_size less, suc-mul k h.stream.block_size)
+
+-- only the first block has padding
 -- only the first block has padding
 front-or-none : (k q pad r : ℕ) → q ≡ cond (eqb k 0) pad 0 → pad < r → (q ≤ pad) × (pad ≤ k * r + q) × (k * r + q - pad ≡ k * r - pad)
 front-or-none zero q pad r e l = let z : 0 * r ≡ 0 = zero-mul r in (omega arith, omega arith, omega arith)
@@ -326,6 +376,11 @@ module _ (file : List ℕ) (h : Fields) (n : ℕ) (pl : Plan file h n) where
       let z : 0 ≡ h.stream.count - h.stream.count = omega arith in
       drop_of_length-le s {i = image_length (header_with h [])} (omega (arith, pl.image)) ∙ sym (blocks-none p h.stream.count)
       ∙ ap (λ (j : ℕ). blocks_from p j h.stream.count) z
+
+  -- the place of a hash field before block k
+  pub linkable : (k at : ℕ) → k ≤ h.stream.count → at + h.stream.hashsum_length ≤ start_of h k → Linkable h k at n
+  linkable k at l f =
+      record { sum = pl.sum; numbered = l; below = pl.below; holds = omega (arith, pl.image); before = f }
 
   pub block-put : (k from : ℕ) (s t u : List ℕ) → k < h.stream.count → length s ≡ n → Written file h (k + 1) s
       → from ≡ start_of h k → t ≡ put s from (link_before h (k + 1) s)

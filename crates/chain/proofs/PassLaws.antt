@@ -3,7 +3,8 @@ use mathlib.Core.Path.{◌≡◌, refl, sym, ap, ap₂, subst, ◌∙◌}
 use mathlib.Core.Bool.{Bool, true, false}
 use mathlib.Core.List.{List}
 use mathlib.Core.Logic.{◌≢◌}
-use Prim.Native.Nat.{ℕ, zero, suc, ◌+◌, ◌-◌, ◌*◌, ◌≤◌, ◌<◌}
+use Prim.Native.Nat.{ℕ, zero, suc, ◌+◌, ◌-◌, ◌*◌, ◌^◌, ◌≤◌, ◌<◌}
+use native.Mathlib.Nat.{mul-le-mul}
 use native.Mathlib.Omega.{arith}
 use borrow.Author.Tests.{eqb-true, eqb-false}
 use lib.Dec.{eqb}
@@ -41,6 +42,10 @@ module _ (image approved : List ℕ) (k : ℕ) (has : HasBlock image approved k)
 -- a first part has its length
 pub first_part : (s : List ℕ) (n : ℕ) → n ≤ length s → n ≡ length (take n s)
 first_part s n h = sym (length-take-le n s h)
+
+-- so many blocks of at most 1,048,576 bytes
+pub blocks-short : (count size : ℕ) → count < 2 ^ 32 → size ≤ 1048576 → count * size ≤ 2 ^ 32 * 1048576
+blocks-short count size h l = mul-le-mul {n₁ = count} {m₁ = size} {n₂ = 2 ^ 32} {m₂ = 1048576} (omega arith) l
 
 -- all from an offset on
 pub drop-is : (s : List ℕ) (at : ℕ) → at ≤ length s → take (length s - at) (drop at s) ≡ drop at s

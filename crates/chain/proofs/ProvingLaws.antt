@@ -4,17 +4,17 @@ use mathlib.Core.Bool.{not}
 use mathlib.Core.List.{List, [], ◌∷◌}
 use mathlib.Core.Logic.{◌≢◌}
 use Prim.Native.Nat.{ℕ, suc, ◌+◌, ◌-◌, ◌*◌, ◌≤◌, ◌<◌}
-use native.Mathlib.Nat.{le_of_lt}
+use native.Mathlib.Nat.{le_of_lt, suc-mul, mul-le-mul_right}
 use native.Mathlib.Numerals.{add-one}
 use native.Mathlib.Omega.{arith}
 use lib.Dec.{eqb}
 use lib.ListN.{length, take, drop, length-append}
 use Rattle.octets.specs.Parts.{put}
-use Rattle.octets.proofs.PartLaws.{length-put}
+use Rattle.octets.proofs.PartLaws.{length_part, length-put}
 use borrow.Author.Tests.{eq-eqb, ne_eqb}
 use Rattle.std.specs.Prelude.{Result, Ok, Err, IsErr}
 use Rattle.std.proofs.lemmas.Result.{IfOk-from_err}
-use Rattle.answers.specs.Answers.{told, stop_at, record_length}
+use Rattle.answers.specs.Answers.{refused, told, stop_at, record_length}
 use Rattle.answers.specs.Codes.{number, code_of}
 use Rattle.answers.specs.Rules.{Rule, rule, first_broken}
 use Rattle.answers.specs.declared.Answer.{Answer}
@@ -24,13 +24,13 @@ use Rattle.answers.proofs.ChoiceLaws.{cond_cases, cond-eq, cond-ne}
 use Rattle.answers.proofs.RefusalLaws.{number-positive}
 use Rattle.answers.proofs.RuleLaws.{goes_on as rules-go_on}
 use Rattle.answers.proofs.OutcomeLaws.{given, unwritten, answered-given, answered-unwritten}
-use Rattle.chain.specs.Blocks.{block_of, block_code, expected, padding_of, file_bytes, file_up_to}
+use Rattle.chain.specs.Blocks.{block_of, block_rules, block_code, expected, padding_of, file_bytes, file_up_to}
 use Rattle.chain.specs.Blocks.{proved, proved_blocks, blocks_stop, bad_block}
 use Rattle.chain.specs.Code.{stream_of}
-use Rattle.chain.specs.ContractWords.{Sized, proved_of, Answered, OpensTo}
+use Rattle.chain.specs.ContractWords.{Sized, block_at, proved_of, Answered, OpensTo}
 use Rattle.chain.specs.Header.{Header, Stream, header_of, file_length, stream_rules}
 use Rattle.chain.specs.Images.{approved_header, block_in}
-use Rattle.chain.specs.Open.{open_rules, proved_file, opened}
+use Rattle.chain.specs.Open.{open_rules, open_answer, proved_file, opened}
 use Rattle.chain.specs.declared.blocks.ProvedBlocks.{ProvedBlocks}
 use Rattle.chain.specs.declared.blocks.Image.{Image}
 use Rattle.chain.proofs.BlockLaws.{goes_on, stops, proved-le, file-none, file-more, put-more, first-part-fits}
@@ -41,6 +41,18 @@ use Rattle.chain.proofs.PassLaws.{block_within, length-block, expected-before}
 
 padding-most : (s : Stream) (k : ℕ) → padding_of s k ≤ s.padding
 padding-most s k = cond_cases (λ (n : ℕ). n ≤ s.padding) (eqb k 0) s.padding 0 (λ e. omega arith) (λ e. omega arith)
+
+-- of any bytes that so many blocks lie in
+module _ (image : List ℕ) (first : ℕ) (s : Stream) (fits : first + s.count * s.block_size ≤ length image) (k : ℕ) (h : k < s.count) where
+  pub block-fits-at : first + k * s.block_size + s.block_size ≤ length image
+  block-fits-at = omega (arith, mul-le-mul_right s.block_size h, suc-mul k s.block_size)
+
+  length-block-at : length (block_at image first s.block_size k) ≡ s.block_size
+  length-block-at = length_part image (first + k * s.block_size) s.block_size block-fits-at
+
+  -- hash field and padding lie in a block
+  pub data-fits-at : Sized s → {b : List ℕ} → b ≡ block_at image first s.block_size k → s.hashsum_length + padding_of s k ≤ length b
+  data-fits-at z e = omega (arith, ap length e, length-block-at, padding-most s k, z.above, z.padded)
 
 module _ (i : Image) where
   abbrev d : Header
@@ -58,8 +70,30 @@ module _ (i : Image) where
   pub sized : Sized (stream_of i.stream)
   sized = subst Sized (sym i.numbers) sized-own
 
+  pub image-fits : i.first + i.stream.count * i.stream.block_size ≤ length i.bytes.now
+  image-fits =
+      subst (λ (t : Stream). i.first + t.count * t.block_size ≤ length i.bytes.now) (sym i.numbers) (omega (arith, i.offset, passing.exact))
+
   pub count-is : i.stream.count ≡ d.stream.count
   count-is = ap (λ (t : Stream). t.count) i.numbers
+
+  -- the blocks at the offset are the image's
+  pub blocks-are : block_at i.bytes.now i.first i.stream.block_size ≡ block_in i
+  blocks-are = ap₂ (λ (n : ℕ) (t : Stream). block_at i.bytes.now n t.block_size) i.offset i.numbers
+
+  -- so are the file's bytes in one of them
+  pub bytes-are : (k : ℕ) (b : List ℕ) → b ≡ block_at i.bytes.now i.first i.stream.block_size k
+      → file_bytes (stream_of i.stream) k b ≡ file_bytes d.stream k (block_in i k)
+  bytes-are k b g =
+      ap₂ (λ (t : Stream) (c : List ℕ). file_bytes t k c) i.numbers (g ∙ ap (λ (block : ℕ → List ℕ). block k) blocks-are)
+
+  -- judged by these numbers, a block gets its code
+  pub code_is : (k r : ℕ) (x b : List ℕ) → r ≡ first_broken (block_rules (stream_of i.stream) k x b) → x ≡ expected d (block_in i) k
+      → b ≡ block_at i.bytes.now i.first i.stream.block_size k → r ≡ block_code d (block_in i) k
+  code_is k r x b e f g =
+      e
+      ∙ ap (λ (t : Stream). first_broken (block_rules t k x b)) i.numbers
+      ∙ ap₂ (λ (y c : List ℕ). first_broken (block_rules d.stream k y c)) f (g ∙ ap (λ (block : ℕ → List ℕ). block k) blocks-are)
 
   -- one of its blocks
   module _ (k : ℕ) (h : k < i.stream.count) where
@@ -102,12 +136,15 @@ module _ (d : Header) (block : ℕ → List ℕ) where
         tells (sym (ap (proved d block) (sym n) ∙ all)) (e ∙ sym (cond-eq k d.stream.count (stop_at 0 0) (bad_block d block k) n))
 
     -- the next one is bad
+    pub next-refused : k < d.stream.count → {code : ℕ} → code ≡ block_code d block k → code ≢ 0 → {t : Stop} → t ≡ stop_at code (k + 1)
+        → record { count = k; stop = t } ≡ proved_of d block
+    next-refused h e n f =
+        tells (sym (stops d block k d.stream.count h all (λ z. n (e ∙ z))))
+        (f ∙ ap₂ stop_at e (add-one k) ∙ sym (cond-ne k d.stream.count (stop_at 0 0) (bad_block d block k) (λ z. omega arith)))
+
     pub next-bad : k < d.stream.count → (why : Refusal) → number why ≡ block_code d block k → {t : Stop} → t ≡ stop_at (number why) (k + 1)
         → record { count = k; stop = t } ≡ proved_of d block
-    next-bad h why e f =
-        let n : block_code d block k ≢ 0 = (λ z. let p = number-positive why in omega arith) in
-        tells (sym (stops d block k d.stream.count h all n))
-        (f ∙ ap₂ stop_at e (add-one k) ∙ sym (cond-ne k d.stream.count (stop_at 0 0) (bad_block d block k) (λ z. omega arith)))
+    next-bad h why e f = next-refused h e (λ z. let p = number-positive why in omega arith) f
 
     -- or proved
     pub next-proved : 0 ≡ block_code d block k → proved d block (k + 1) ≡ k + 1
@@ -139,6 +176,9 @@ module _ {i : Image} {before output : List ℕ} {k at : ℕ} (exact : length bef
             (le_of_lt (passing i).sound.padded),
       )
 
+  pub copied-whole : k ≤ (d i).stream.count → length output ≡ length before
+  copied-whole h = ap length c.copied ∙ length-put before 0 (file k) (omega (arith, first_fits k h))
+
   module _ (h : k < i.stream.count) where
     on : k < (d i).stream.count
     on = there i k h
@@ -147,7 +187,7 @@ module _ {i : Image} {before output : List ℕ} {k at : ℕ} (exact : length bef
     block = file_bytes (d i).stream k (block_in i k)
 
     pub copied-length : length output ≡ length before
-    copied-length = ap length c.copied ∙ length-put before 0 (file k) (omega (arith, first_fits k (le_of_lt on)))
+    copied-length = copied-whole (le_of_lt on)
 
     module _ {bytes : List ℕ} (f : bytes ≡ block) where
       more : at + length bytes ≡ length (file (suc k))
@@ -187,6 +227,14 @@ module _ (image approved : List ℕ) (signature : ℕ) (before : List ℕ) where
   exactly = rule 29 (not (eqb (length before) (file_length (header_of approved).stream))) ∷ []
 
   -- refused before any block
+  pub answered-refused : (code : ℕ) {a : Answer} → code ≡ early → code ≢ 0 → a ≡ refused code
+      → Answered early (header_of approved) blocks before a before
+  answered-refused code e n f =
+      record {
+        answer = f ∙ ap refused e ∙ sym (cond-ne early 0 (open_answer (header_of approved) blocks) (refused early) (λ z. n (e ∙ z)));
+        copied = sym (ap (λ (t : List ℕ). put before 0 t) (cond-ne early 0 (proved_file (header_of approved) blocks) [] (λ z. n (e ∙ z))));
+      }
+
   pub opens-refused : (r : Result Answer Refusal) → IsErr r → code_of r ≡ early → OpensTo early (header_of approved) blocks before r before
   opens-refused r h e =
       let n : early ≢ 0 = (λ z. code-err r h (e ∙ z)) in
@@ -231,6 +279,17 @@ module _ (image approved : List ℕ) (signature : ℕ) (before : List ℕ) where
           code = sym z;
           answer = g ∙ ap₂ (λ (x : ProvedBlocks) (k : ℕ). told x.stop 0 k 0) m (l ∙ ap length file-is);
           copied = c ∙ ap (λ (t : List ℕ). put before 0 t) (file-is ∙ sym (cond-eq early 0 (proved_file d blocks) [] z));
+        }
+
+    pub answered-proved : early ≡ 0 → {p : ProvedBlocks} → p ≡ proved_of (approved_header i) (block_in i) → (stored : ℕ) (after : List ℕ) {a : Answer}
+        → after ≡ put before 0 (file_up_to (approved_header i).stream (block_in i) p.count)
+        → stored ≡ length (file_up_to (approved_header i).stream (block_in i) p.count) → a ≡ told p.stop 0 stored 0
+        → Answered early (header_of approved) blocks before a after
+    answered-proved z q stored after c l g =
+        let o = opens-proved z q stored after c l g in
+        record {
+          answer = o.answer ∙ sym (cond-eq early 0 (open_answer (header_of approved) blocks) (refused early) z);
+          copied = o.copied;
         }
 
   module _ (old : List ℕ) where
