@@ -1,14 +1,14 @@
 -- Laws that carry the code's loops and fields to the definitions.
 use mathlib.Core.Path.{◌≡◌, sym, ap, ap₂, subst, ◌∙◌}
 use mathlib.Core.Bool.{true, false, cond}
-use mathlib.Core.List.{List}
+use mathlib.Core.List.{List, ◌++◌}
 use Prim.Native.Nat.{ℕ, ◌+◌, ◌-◌, ◌≤◌, ◌<◌}
 use native.Mathlib.Numerals.{add-one}
 use native.Mathlib.Omega.{arith}
 use borrow.Author.Tests.{eq-eqb, ne_eqb, lt-ltb, le-ltb, not-false}
 use lib.Dec.{eqb, lit≤}
-use lib.ListN.{length, replicate, get_or, take, drop, drop_of_length-le}
-use lib.Seq.{drop-cons, take-take}
+use lib.ListN.{length, replicate, get_or, take, drop, length-append, length-take, drop_of_length-le}
+use lib.Seq.{take_at, drop-cons, take-take}
 use Rattle.std.specs.Prelude.{Result, Err}
 use Rattle.octets.specs.Numbers.{little}
 use Rattle.octets.specs.Parts.{part, put}
@@ -21,10 +21,10 @@ use Rattle.answers.proofs.RefusalLaws.{number-positive}
 use Rattle.answers.proofs.RuleLaws.{zero-all-hold}
 use Rattle.board.specs.Cpuid.{Leaf, lookup}
 use Rattle.board.specs.Map.{Region, regions, ordered, ram, offset}
-use Rattle.board.specs.Reach.{limit}
+use Rattle.board.specs.Reach.{limit, reachable}
 use Rattle.board.proofs.MapLaws.{ordered-means, offset-fits}
 use Rattle.machine.specs.Code.{state_of}
-use Rattle.machine.specs.ContractWords.{after, Done, Lent}
+use Rattle.machine.specs.ContractWords.{kept_all, after, Done, Lent}
 use Rattle.machine.specs.Commands.{
   has_zero,
   named,
@@ -93,6 +93,19 @@ zero-missing text i h = ap has_zero (drop_of_length-le text h)
 
 -- ---- the bytes gathered
 
+-- bytes kept behind the first k
+take_put : (h : List ℕ) (k : ℕ) (xs : List ℕ) → k + length xs ≤ length h → take (k + length xs) (put h k xs) ≡ take k h ++ xs
+take_put h k xs fits =
+    take_at (take k h ++ xs) (drop (k + length xs) h) (k + length xs) (simp (length-append, length-take) (omega arith))
+
+pub kept-behind : (c : Control) (h xs : List ℕ) {g : List ℕ} (n : ℕ) → n ≡ length xs → g ≡ put h c.kept xs → c.kept + n ≤ length h
+    → state_of (record { phase = c.phase; kept = c.kept + n; start = c.start; next = c.next + n; tally = c.tally }) g
+    ≡ kept_all xs (state_of c h)
+kept-behind c h xs {g} n e f fits =
+    let p : take (c.kept + n) g ≡ take c.kept h ++ xs =
+    ap₂ (λ (m : ℕ) (l : List ℕ). take (c.kept + m) l) e f ∙ take_put h c.kept xs (omega arith) in
+    λ i. record { phase = c.phase; gathered = p i; start = c.start; next = c.next + e i; tally = c.tally }
+
 -- a field that lies in the first k bytes
 part-gathered : (h : List ℕ) (k at n : ℕ) → at + n ≤ k → part h at n ≡ part (take k h) at n
 part-gathered h k at n l =
@@ -114,12 +127,15 @@ judged-few Check = lit≤ tt
 -- ---- what is judged
 
 -- a command that is refused stops the run, one that is not goes on
+pub judged-stopped : (s : State) {code rules : ℕ} → code ≡ rules → (e : Effect) → (code ≡ 0 → ⊥)
+    → judged rules s e ≡ no_stores (stopped code s.start s)
+judged-stopped s {code} same e n =
+    ap (λ (r : ℕ). judged r s e) (sym same) ∙ cond-ne code 0 e (no_stores (stopped code s.start s)) n
+
 pub judged-stops : (c : Control) (h : List ℕ) (e : Effect) {rules : ℕ} (r : Result Control Refusal) (why : Refusal) → number why ≡ rules
     → r ≡ Err why → judged rules (state_of c h) e ≡ no_stores (after c r h)
 judged-stops c h e r why same err =
-    ap (λ (n : ℕ). judged n (state_of c h) e) (sym same)
-    ∙ cond-ne (number why) 0 e (no_stores (stopped (number why) c.start (state_of c h)))
-    (λ z. let n = number-positive why in omega arith)
+    judged-stopped (state_of c h) same e (λ z. let n = number-positive why in omega arith)
     ∙ ap (λ (x : Result Control Refusal). no_stores (after c x h)) (sym err)
 
 pub judged-goes : (s : State) (e : Effect) {rules : ℕ} → 0 ≡ rules → judged rules s e ≡ e
@@ -143,12 +159,28 @@ module _ (file_length : ℕ) (s : State) where
 
 -- ---- the rules in order, by the tests that the code made
 
+module _ (map : List Region) (top a n : ℕ) where
+  pub out-of-reach : reachable top a n ≡ false → 20 ≡ first_broken (range_rules map top a n)
+  out-of-reach e = simp e
+
+  pub out-of-ram : reachable top a n ≡ true → ram map a n ≡ false → 21 ≡ first_broken (range_rules map top a n)
+  out-of-ram e f = simp (e, f)
+
+  pub in-range : reachable top a n ≡ true → ram map a n ≡ true → 0 ≡ first_broken (range_rules map top a n)
+  in-range e f = simp (e, f)
+
 -- what a range that was judged says
 pub range-ram : (map : List Region) (top a n : ℕ) → 0 ≡ first_broken (range_rules map top a n) → ram map a n ≡ true
 range-ram map top a n e = not-false _ (zero-all-hold (range_rules map top a n) tt (sym e)).1.0
 
 module _ (table : List Leaf) (c : List ℕ) where
+  pub text-open : has_zero (text c) ≡ false → 22 ≡ first_broken (check_rules table c)
+  text-open e = simp e
+
   module _ (zero : has_zero (text c) ≡ true) where
+    pub no-instruction : eqb (length table) 0 ≡ true → 23 ≡ first_broken (check_rules table c)
+    no-instruction e = simp (zero, e)
+
     module _ (some : eqb (length table) 0 ≡ false) where
       pub no_register : 3 < result_register c → 24 ≡ first_broken (check_rules table c)
       no_register h = simp (zero, some, lt-ltb _ _ h)

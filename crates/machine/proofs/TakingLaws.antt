@@ -4,14 +4,14 @@ use mathlib.Core.Path.{◌≡◌, refl, sym, ap, subst, ◌∙◌}
 use mathlib.Core.List.{List, [], ◌++◌}
 use Prim.Native.Nat.{ℕ, ◌+◌, ◌-◌, ◌^◌, ◌≤◌, ◌<◌, min}
 use native.Mathlib.Omega.{arith}
-use borrow.Author.Tests.{lt-ltb, le-ltb}
+use borrow.Author.Tests.{leb-true, le-leb, lt-ltb, le-ltb}
 use lib.Dec.{eqb, lit≤}
 use lib.ListN.{length, take, drop, length-append, length-take, length-drop, take-append-drop, drop_of_length-le}
 use lib.Seq.{take_all, drop-drop}
 use Rattle.answers.specs.Rules.{first_broken}
 use Rattle.answers.specs.declared.Stop.{Stop}
 use Rattle.answers.proofs.ChoiceLaws.{cond_cases}
-use Rattle.board.specs.Map.{Region, regions, ordered, ram, map_rules}
+use Rattle.board.specs.Map.{Region, regions, ordered, uncovered, ram, map_rules}
 use Rattle.board.specs.Reach.{limit}
 use Rattle.board.proofs.MapLaws.{map-means, ordered-holds}
 use Rattle.machine.specs.Code.{state_of}
@@ -220,6 +220,20 @@ effects-gathered on Awaited.Header s xs = effects-header on s xs
 effects-gathered on (Awaited.Parameters k) s xs = λ some. effects-parameters on s xs some k
 
 -- n of the rest's bytes, as many as are awaited and at hand, are used
+module _ {all : ℕ} {c : Control} {g : List ℕ} (rest : List ℕ) {file_length : ℕ} (a : Awaits all c g file_length)
+    (some : 0 < length rest) {n : ℕ} (many : n ≡ min (all - c.kept) (length rest)) where
+  pub some-gathered : 0 < length (take n rest)
+  some-gathered = omega (arith, length-take n rest, a.missing)
+
+  pub gathered-fits : length (state_of c g).gathered + length (take n rest) ≤ all
+  gathered-fits = omega (arith, length-take n rest, gathered-long a, a.missing)
+
+  pub used-as : (on : Setting) (read : State → Effect) {t : State} {map : List Region} {before after : List ℕ}
+      → effects on (state_of c g) (take n rest) ≡ gather_all all read (state_of c g) (take n rest)
+      → Done (gather_all all read (state_of c g) (take n rest)) t map before after → Used on (state_of c g) rest n t map before after
+  used-as on read e d =
+      record { progress = omega (arith, a.missing); within = omega arith; done = done-same e d }
+
 module _ (on : Setting) (w : Awaited) {c : Control} {g : List ℕ} (rest : List ℕ) {file_length : ℕ}
     (a : Awaits (awaited w) c g file_length) (p : c.phase ≡ phase_of w) (some : 0 < length rest) {n : ℕ}
     (many : n ≡ min (awaited w - c.kept) (length rest)) where
@@ -227,17 +241,13 @@ module _ (on : Setting) (w : Awaited) {c : Control} {g : List ℕ} (rest : List 
       → Done (gather_all (awaited w) (says w on) (state_of c g) (take n rest)) t map before after
       → Used on (state_of c g) rest n t map before after
   used-gathered d =
-      record {
-        progress = omega (arith, a.missing);
-        within = omega arith;
-        done =
-            done-same
-            (effects-gathered on w (state_of c g) (take n rest) (omega (arith, length-take n rest, a.missing)) p
-            (omega (arith, length-take n rest, gathered-long a, a.missing)))
-            d;
-      }
+      used-as rest a some many on (says w on)
+      (effects-gathered on w (state_of c g) (take n rest) (some-gathered rest a some many) p (gathered-fits rest a some many)) d
 
 -- ---- bytes of a command's data
+
+pub ram-fewer : (rs : List Region) (a n m : ℕ) → n ≤ m → ram rs a m ≡ true → ram rs a n ≡ true
+ram-fewer rs a n m h r = le-leb (a + n) (uncovered rs a) (omega (arith, leb-true (a + m) (uncovered rs a) r))
 
 module _ (on : Setting) (c : Control) (g rest : List ℕ) {n left : ℕ} (any : 0 < left) (some : 0 < length rest)
     (many : n ≡ min left (length rest)) where
