@@ -2,7 +2,7 @@
 use mathlib.Core.Path.{◌≡◌, refl, sym, ap, subst, ◌∙◌}
 use mathlib.Core.List.{List, []}
 use mathlib.Core.Logic.{◌≢◌}
-use Prim.Native.Nat.{ℕ, ◌+◌, ◌≤◌, ◌<◌}
+use Prim.Native.Nat.{ℕ, ◌+◌, ◌^◌, ◌≤◌, ◌<◌}
 use native.Mathlib.Numerals.{add-one}
 use native.Mathlib.Omega.{arith}
 use lib.ListN.{length}
@@ -162,6 +162,24 @@ module _ (o : Offer) (before : List ℕ) where
   early = first_broken (load_rules o (length before))
 
   -- refused by 1 to 12
+  pub refusal-gives : {code : ℕ} → code ≡ early → code ≢ 0 → (a : Answer) → a ≡ refused code → LoadGives o before a before
+  unfolding applied
+  refusal-gives e n a f =
+      let m : early ≢ 0 = (λ z. n (e ∙ z)) in
+      record {
+        answer = f ∙ ap refused e ∙ sym (cond-ne early 0 (load_answer o) (refused early) m);
+        memory = sym (ap (applied (regions o.map) before) (cond-ne early 0 (stores o) [] m));
+      }
+
+  -- or by none of them
+  pub blocks-give : early ≡ 0 → (a : Answer) (after : List ℕ) → BlocksGive o before a after → LoadGives o before a after
+  blocks-give z a after g =
+      record {
+        answer = g.answer ∙ sym (cond-eq early 0 (load_answer o) (refused early) z);
+        memory = g.memory ∙ ap (applied (regions o.map) before) (sym (cond-eq early 0 (stores o) [] z));
+      }
+
+  -- the same of what is given before a refusal becomes an answer
   pub loads-refused : {r : Result Answer Refusal} (why : Refusal) → IsErrAnd r (λ (d : Refusal). d ≡ why) → number why ≡ early
       → LoadsTo o before r before
   unfolding applied
@@ -175,7 +193,12 @@ module _ (o : Offer) (before : List ℕ) where
         memory = sym (ap (applied (regions o.map) before) (cond-ne early 0 (stores o) [] n));
       })
 
-  -- or by none of them: then the blocks are taken up
+  -- where the blocks are taken up, header and signature field are short
+  pub first_fits : early ≡ 0 → length o.approved + o.signature ≤ 2 ^ 30
+  first_fits z =
+      let t = taken o (length before) z in
+      omega (arith, t.allowed.small, t.image.exact, t.image.sound.approved, t.image.sound.signature)
+
   module _ (z : early ≡ 0) (i : Image) (e : i.bytes.now ≡ o.image) (f : i.approved.now ≡ o.approved) where
     pub loadable : Loadable i o.map (length before)
     loadable =
