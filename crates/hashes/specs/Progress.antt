@@ -32,12 +32,12 @@ pub record Streamed (P : Width) (H : Eight) (v : Eight) (pending : List ℕ) (n 
 abbrev pub StreamFed : {S : Type 0} {n : ℕ} → Width → (S → Eight) → Eight → Stream S n → List ℕ → Type 0
 StreamFed P words H s x = Streamed P H (words s.words) s.pending s.length x
 
--- a hasher that was begun by the hash ID i and fed the bytes x; of an ID that has no digest it tells no more than that
+-- a hasher that was begun by the hash ID i and fed the bytes x; of an ID that has no digest it keeps no byte
 abbrev pub Fed : Hasher → ℕ → List ℕ → Type 0
 Fed (Sha256 s) i x = (i ≡ 2) × StreamFed narrow plain initial256 s x
 Fed (Sha384 s) i x = (i ≡ 3) × StreamFed wide plain initial384 s x
 Fed (Sha512 s) i x = (i ≡ 4) × StreamFed wide plain initial512 s x
-Fed Unknown i x = digest_length i ≡ 0
+Fed (Unknown n) i x = (n ≡ i) × (digest_length i ≡ 0)
 
 -- a hasher fed a piece p more, whatever it was fed before
 abbrev pub Feeds : Hasher → List ℕ → Hasher → Type 0

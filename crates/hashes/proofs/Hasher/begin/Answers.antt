@@ -1,4 +1,4 @@
-use Rattle.std.proofs.Common.{arith, rules}
+use Rattle.std.proofs.Common.{refl, arith, rules}
 use Rattle.hashes.specs.Tables.{narrow, wide, initial256, initial384, initial512}
 use Rattle.hashes.proofs.Algorithms.{has-none, length-by}
 use Rattle.hashes.proofs.Feeding.{begun-from}
@@ -17,4 +17,4 @@ unfolding initial512
 returns-in-4 c = (c.in-4.is, begun-from wide (search rules) c.begin-in-4.ensures)
 
 pub returns-in_default : goal.returns-in_default
-returns-in_default c = length-by c.args.id (has-none (omega arith) (omega arith) (omega arith))
+returns-in_default c = (refl, length-by c.args.id (has-none (omega arith) (omega arith) (omega arith)))

@@ -1,6 +1,6 @@
 use Rattle.std.proofs.Common.{◌≡◌, sym, refl, ◌∙◌, subst, arith, rules}
 use Rattle.hashes.specs.declared.Hasher.{Hasher}
-use Rattle.hashes.specs.declared.Hasher.TheVariants.{Sha256, Sha384, Sha512}
+use Rattle.hashes.specs.declared.Hasher.TheVariants.{Sha256, Sha384, Sha512, Unknown}
 use Rattle.hashes.specs.Tables.{initial256, initial384, initial512, SHA2-256, SHA2-384, SHA2-512}
 use Rattle.hashes.specs.Digests.{digest_length}
 use Rattle.hashes.specs.Progress.{Fed}
@@ -30,5 +30,6 @@ returns-in-Sha512 c =
 pub returns-in-Unknown : goal.returns-in-Unknown
 returns-in-Unknown c =
     λ i x l f.
-    let h : digest_length i ≡ 0 = subst (λ (k : Hasher). Fed k i x) c.in-Unknown.is f in
+    let g : Fed (Unknown c.in-Unknown.field-0) i x = subst (λ (k : Hasher). Fed k i x) c.in-Unknown.is f in
+    let h : digest_length i ≡ 0 = g.1 in
     (c.fill.ensures ∙ zeros-in-sixty-four c.args.out.now (search rules) ∙ sym (no-digest i x h), sym h)
