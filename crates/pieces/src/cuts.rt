@@ -3,39 +3,49 @@ ghost use Rattle.std.specs.Prelude.{◌≡◌, length};
 ghost use Rattle.machine.specs.Code.{machine_of};
 ghost use Rattle.machine.specs.ContractWords.{Ready};
 
+use crate::files::ROOM;
 use crate::unit::{self, Unit};
 use answers::codes::Refusal;
 use answers::{Answer, Stop, rules};
 use board::map;
 use machine::{Job, Machine};
-use std::alloc::{AllocError, Global};
+use std::array;
 
-// The pieces of a cut file, in order.
-pub type Pieces<'a> = Vec<&'a [u8]>;
-
-// All cuts of the file: into single bytes, into two pieces and into three.
-pub(crate) fn all(alloc: Global, file: &[u8]) -> Result<Vec<Pieces<'_>>, AllocError> {
-    let mut cuts = vec![in alloc; file.chunks(1).collect(alloc)?]?;
-    for first in 0..=file.len() {
-        let (head, rest) = file.split_at(first);
-        cuts.push(vec![in alloc; head, rest]?)?;
-        put_threes(alloc, &mut cuts, head, rest)?;
-    }
-    Ok(cuts)
+// How many cuts were tried, and how many of them left what the whole run left.
+#[derive(Clone, Copy)]
+pub struct Count {
+    pub tried: u64,
+    pub agree: u64,
 }
 
-// The cuts into three whose first piece is this one.
-fn put_threes<'a>(
-    alloc: Global,
-    cuts: &mut Vec<Pieces<'a>>,
-    head: &'a [u8],
-    rest: &'a [u8],
-) -> Result<(), AllocError> {
-    for second in 0..=rest.len() {
-        let (middle, end) = rest.split_at(second);
-        cuts.push(vec![in alloc; head, middle, end]?)?;
+impl Count {
+    // One cut more. The counts stay small; that they do is not proved, so they wrap.
+    fn add(&mut self, agrees: bool) {
+        self.tried = self.tried.wrapping_add(1);
+        self.agree = self.agree.wrapping_add(u64::from(agrees));
     }
-    Ok(())
+}
+
+// All cuts of the file: into single bytes, into two pieces and into three.
+pub(crate) fn all(unit: &Unit, file: &[u8], whole: &Left) -> Count {
+    let mut count = Count { tried: 0, agree: 0 };
+    // a list with room for any file: behind this one's end its pieces are empty, and are left out
+    let bytes: [&[u8]; ROOM] = array::from_fn(|at| file.get(at..=at).unwrap_or_default());
+    count.add(agrees(unit, file, &bytes[..file.len().min(ROOM)], whole));
+    for first in 0..=file.len() {
+        let (head, rest) = file.split_at(first);
+        count.add(agrees(unit, file, &[head, rest], whole));
+        for second in 0..=rest.len() {
+            let (middle, end) = rest.split_at(second);
+            count.add(agrees(unit, file, &[head, middle, end], whole));
+        }
+    }
+    count
+}
+
+// Whether a run over the pieces leaves what the whole run left.
+fn agrees(unit: &Unit, file: &[u8], pieces: &[&[u8]], whole: &Left) -> bool {
+    in_pieces(unit, file.len(), pieces) == *whole
 }
 
 // What a run leaves.
@@ -70,7 +80,7 @@ pub(crate) fn whole(unit: &Unit, file: &[u8]) -> Left {
 }
 
 // As running bare does, but with the file in pieces.
-pub(crate) fn in_pieces(unit: &Unit, size: usize, pieces: &[&[u8]]) -> Left {
+fn in_pieces(unit: &Unit, size: usize, pieces: &[&[u8]]) -> Left {
     let mut left = Left::fresh();
     let length = size as u64;
     // a refusal before the first piece leaves the record as it was, and so it shows

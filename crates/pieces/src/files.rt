@@ -1,5 +1,8 @@
 // Command files, part by part.
-use std::alloc::AllocError;
+use std::mem;
+
+// How many bytes a file may have.
+pub const ROOM: usize = 160;
 
 // A command, or another part of a file.
 #[derive(Clone, Copy)]
@@ -26,51 +29,59 @@ pub enum Part {
 }
 
 impl Part {
-    // Appends the bytes of this part.
-    pub(crate) fn put(self, file: &mut Vec<u8>) -> Result<(), AllocError> {
+    // Appends the bytes of this part: the rest of the room then begins behind them.
+    pub(crate) fn put(self, rest: &mut &mut [u8]) {
         match self {
-            Part::Magic => file.extend_from_slice(&machine::MAGIC.to_le_bytes()),
+            Part::Magic => put(rest, &machine::MAGIC.to_le_bytes()),
             Part::Write(address) => {
-                put_header(file, 0, 16)?;
-                put_all(file, &[address, 0x0807060504030201].map(u64::to_le_bytes))
+                put_header(rest, 0, 16);
+                put_all(rest, &[address, 0x0807060504030201].map(u64::to_le_bytes));
             }
             Part::Fill {
                 address,
                 count,
                 pattern,
             } => {
-                put_header(file, 1, 24)?;
-                put_all(file, &[address, count, pattern].map(u64::to_le_bytes))
+                put_header(rest, 1, 24);
+                put_all(rest, &[address, count, pattern].map(u64::to_le_bytes));
             }
             Part::Entry(address) => {
-                put_header(file, 2, 8)?;
-                file.extend_from_slice(&address.to_le_bytes())
+                put_header(rest, 2, 8);
+                put(rest, &address.to_le_bytes());
             }
             Part::Check(value) => {
-                put_header(file, 3, 88)?;
-                put_all(file, &[1, 7, value, 0x30].map(u32::to_le_bytes))?;
-                file.extend_from_slice(&2u64.to_le_bytes())?;
-                file.extend_from_slice(&[b' '; 63])?;
+                put_header(rest, 3, 88);
+                put_all(rest, &[1, 7, value, 0x30].map(u32::to_le_bytes));
+                put(rest, &2u64.to_le_bytes());
+                put(rest, &[b' '; 63]);
                 // the text's zero byte
-                file.extend_from_slice(&[0])
+                put(rest, &[0]);
             }
-            Part::Header(id, length) => put_header(file, id, length),
-            Part::Eight(n) => file.extend_from_slice(&n.to_le_bytes()),
-            Part::Four(n) => file.extend_from_slice(&n.to_le_bytes()),
-            Part::Two(n) => file.extend_from_slice(&n.to_le_bytes()),
-            Part::Byte(b) => file.extend_from_slice(&[b]),
+            Part::Header(id, length) => put_header(rest, id, length),
+            Part::Eight(n) => put(rest, &n.to_le_bytes()),
+            Part::Four(n) => put(rest, &n.to_le_bytes()),
+            Part::Two(n) => put(rest, &n.to_le_bytes()),
+            Part::Byte(b) => put(rest, &[b]),
         }
     }
 }
 
 // ID 2, reserved 6, data length 8.
-fn put_header(file: &mut Vec<u8>, id: u16, length: u64) -> Result<(), AllocError> {
-    file.extend_from_slice(&id.to_le_bytes())?;
-    file.extend_from_slice(&[0; 6])?;
-    file.extend_from_slice(&length.to_le_bytes())
+fn put_header(rest: &mut &mut [u8], id: u16, length: u64) {
+    put(rest, &id.to_le_bytes());
+    put(rest, &[0; 6]);
+    put(rest, &length.to_le_bytes());
 }
 
 // Numbers, by the bytes of each.
-fn put_all<const N: usize>(file: &mut Vec<u8>, numbers: &[[u8; N]]) -> Result<(), AllocError> {
-    file.extend_from_slice(numbers.as_flattened())
+fn put_all<const N: usize>(rest: &mut &mut [u8], numbers: &[[u8; N]]) {
+    put(rest, numbers.as_flattened());
+}
+
+// Appends bytes, as far as there is room.
+fn put(rest: &mut &mut [u8], bytes: &[u8]) {
+    let n = bytes.len().min(rest.len());
+    let (front, behind) = mem::take(rest).split_at_mut(n);
+    front.copy_from_slice(&bytes[..n]);
+    *rest = behind;
 }

@@ -7,36 +7,35 @@ mod cuts;
 mod files;
 mod unit;
 
-use files::Part;
+use cuts::Count;
+use files::{Part, ROOM};
 use octets::numbers::Number;
-use std::alloc::{AllocError, Global};
 use std::io;
 use unit::Unit;
 
 fn main(rt: HostRuntime) -> io::Result<()> {
-    let unit = Unit::new(rt.alloc())?;
+    let unit = Unit::new();
     for (name, parts) in cases::FILES {
-        report(&rt, name, &file(rt.alloc(), parts)?, &unit)?;
+        let mut room = [0; ROOM];
+        report(&rt, name, file(parts, &mut room), &unit)?;
     }
     Ok(())
 }
 
-fn file(alloc: Global, parts: &[Part]) -> Result<Vec<u8>, AllocError> {
-    let mut bytes = Vec::new(alloc);
+// The file that the parts make, written into the room.
+fn file<'a>(parts: &[Part], room: &'a mut [u8; ROOM]) -> &'a [u8] {
+    let mut rest: &mut [u8] = room;
     for part in parts {
-        part.put(&mut bytes)?;
+        part.put(&mut rest);
     }
-    Ok(bytes)
+    // no rest is longer than its room; that is not proved, so the difference stops at 0
+    let size = ROOM.saturating_sub(rest.len());
+    &room[..size]
 }
 
-fn report(rt: &(impl Print + AllocGlobal), name: &str, file: &[u8], unit: &Unit) -> io::Result<()> {
+fn report(rt: &impl Print, name: &str, file: &[u8], unit: &Unit) -> io::Result<()> {
     let whole = cuts::whole(unit, file);
-    let cuts = cuts::all(rt.alloc(), file)?;
-    let tried = cuts.len();
-    let agree = cuts
-        .iter()
-        .filter(|pieces| cuts::in_pieces(unit, file.len(), pieces) == whole)
-        .count();
+    let Count { tried, agree } = cuts::all(unit, file, &whole);
     print!(rt; "{name}: ")?;
     print_answer(rt, &whole.answer)?;
     println!(rt; "; {tried} cuts, {agree} agree")
