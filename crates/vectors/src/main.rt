@@ -2,11 +2,11 @@
 // A message whose name ends in `-by-N` is fed in pieces of N bytes.
 #![tactic(auto)]
 
-ghost use Rattle.std.specs.Prelude.{◌<◌, All};
+ghost use Rattle.std.specs.Prelude.{◌<◌, ◌≤◌, All};
 ghost use Rattle.hashes.specs.Progress.{Fed};
 
 use hashes::Hasher;
-use std::{fmt, io};
+use std::{array, fmt, io};
 
 // The IDs and names of the hashes.
 const HASHES: [(u64, &str); 3] = [(2, "sha256"), (3, "sha384"), (4, "sha512")];
@@ -26,7 +26,7 @@ fn main(rt: HostRuntime) -> io::Result<()> {
 
 // The messages of the standard's published examples, whole and in pieces that end before, at and behind a block's border.
 // Calls and no table, so that each call shows that its piece sizes are not 0, which all below ask for: `chunks` does.
-fn published(rt: &(impl Print + AllocGlobal)) -> io::Result<()> {
+fn published(rt: &impl Print) -> io::Result<()> {
     lines(rt, "empty", b"", &[])?;
     lines(rt, "abc", b"abc", &[1])?;
     let short = b"abcdbcdecdefdefgefghfghighijhijkijkljklmklmnlmnomnopnopq";
@@ -34,14 +34,21 @@ fn published(rt: &(impl Print + AllocGlobal)) -> io::Result<()> {
     let long =
         b"abcdefghbcdefghicdefghijdefghijkefghijklfghijklmghijklmnhijklmnoijklmnopjklmnopqklmnopqrlmnopqrsmnopqrstnopqrstu";
     lines(rt, "896-bit", long, &[1, 63, 64, 65])?;
-    let million = vec![in rt.alloc(); b'a'; 1000000]?;
-    lines(rt, "million-a", &million, &[1, 127, 128, 1000])
+    let message = [b'a'; 1000000];
+    million(rt, &message)
+}
+
+// The array's length is known here by its type: proving it from the value builds a list of a million.
+fn million(rt: &impl Print, message: &[u8; 1000000]) -> io::Result<()> {
+    lines(rt, "million-a", message, &[1, 127, 128, 1000])
 }
 
 // The message of `length` bytes whose byte i is i mod 251.
-fn border(rt: &(impl Print + AllocGlobal), length: usize) -> io::Result<()> {
-    let message: Vec<u8> = (0..length).map(|i| (i % 251) as u8).collect(rt.alloc())?;
-    whole(rt, format_args!("border-{length}"), &message)
+fn border(rt: &impl Print, length: usize) -> io::Result<()>
+    requires { length ≤ 129 }
+{
+    let message: [u8; 129] = array::from_fn(|i| (i % 251) as u8);
+    whole(rt, format_args!("border-{length}"), &message[..length])
 }
 
 // The digests of a message, and of the message fed in pieces of each of these sizes.
