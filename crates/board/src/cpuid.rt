@@ -1,4 +1,4 @@
-ghost use Rattle.std.specs.Prelude.{◌≡◌, not, eqb, length, map};
+ghost use Rattle.std.specs.Prelude.{◌≡◌, ◌+◌, ◌*◌, ◌^◌, not, eqb, length, map};
 ghost use Rattle.answers.specs.Codes.{code_of};
 ghost use Rattle.answers.specs.Rules.{first_broken};
 ghost use Rattle.board.specs.Cpuid as spec;
@@ -57,7 +57,7 @@ fn ascends(table: &[u8]) -> bool
 fn is_before(this: &[u8; RECORD], that: &[u8; RECORD]) -> bool
     ensures { result ≡ spec.before (spec.leaf this.now 0) (spec.leaf that.now 0) }
 {
-    Inputs::of(this) < Inputs::of(that)
+    Inputs::of(this).number() < Inputs::of(that).number()
 }
 
 // The records of a table.
@@ -68,8 +68,8 @@ fn records(table: &[u8]) -> &[[u8; RECORD]]
     table.as_chunks::<RECORD>().0
 }
 
-// What a record is found by; in order by EAX input and then ECX input.
-#[derive(Clone, Copy, PartialEq, Eq, PartialOrd, Ord)]
+// What a record is found by.
+#[derive(Clone, Copy, PartialEq, Eq)]
 struct Inputs {
     eax: u32,
     ecx: u32,
@@ -84,6 +84,14 @@ impl Inputs {
             eax: u32::little(leaf, 0),
             ecx: u32::little(leaf, 4),
         }
+    }
+
+    // Both as one number: it is in order by EAX input and then ECX input, and is compared at once, where the derived order
+    // took half as long again.
+    fn number(self) -> u64
+        ensures { result ≡ self.eax * 2 ^ 32 + self.ecx }
+    {
+        self.eax as u64 * 4294967296 + self.ecx as u64
     }
 }
 
