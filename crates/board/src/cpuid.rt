@@ -86,8 +86,7 @@ impl Inputs {
         }
     }
 
-    // Both as one number: it is in order by EAX input and then ECX input, and is compared at once, where the derived order
-    // took half as long again.
+    // Both as one number, whose order is by EAX input and then ECX input: one comparison in place of two.
     fn number(self) -> u64
         ensures { result ≡ self.eax * 2 ^ 32 + self.ecx }
     {

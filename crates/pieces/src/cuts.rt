@@ -29,7 +29,7 @@ impl Count {
 // All cuts of the file: into single bytes, into two pieces and into three.
 pub(crate) fn all(unit: &Unit, file: &[u8], whole: &Left) -> Count {
     let mut count = Count { tried: 0, agree: 0 };
-    // a list with room for any file: behind this one's end its pieces are empty, and are left out
+    // each byte alone; the list has room for any file, and the empty pieces behind this one's end are left out
     let bytes: [&[u8]; ROOM] = array::from_fn(|at| file.get(at..=at).unwrap_or_default());
     count.add(agrees(unit, file, &bytes[..file.len().min(ROOM)], whole));
     for first in 0..=file.len() {
